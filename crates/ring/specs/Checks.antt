@@ -1,0 +1,28 @@
+-- The checks of a call in their order, and what a call answers: the fault of the first that fails. Assumes nothing.
+use mathlib.Core.Path.{_≡_}
+use mathlib.Core.Bool.{Bool, true, false, cond}
+use mathlib.Core.List.{List, [], _∷_, _++_}
+use Rattle.std.specs.declared.result.Result.{Result}
+use Rattle.std.specs.declared.result.Result.the-variants.{Ok, Err}
+
+-- whether a check fails, and the fault that it then gives
+pub record Check (F : Type 0) : Type 0 where
+  pub fails : Bool
+  pub fault : F
+
+-- the fault of the first check that fails, or else what an accepted call answers
+abbrev pub verdict : {F T : Type 0} → List (Check F) → T → Result T F
+verdict [] accepted = Ok accepted
+verdict (c ∷ cs) accepted = cond (c .fails) (Err (c .fault)) (verdict cs accepted)
+
+-- none of these checks fails
+abbrev pub Passed : {F : Type 0} → List (Check F) → Type 0
+Passed [] = Unit {0}
+Passed (c ∷ cs) = (c .fails ≡ false) × Passed cs
+
+-- the fault of a check that fails, after checks that all pass
+pub record First {F : Type 0} (checks : List (Check F)) (fault : F) : Type 0 where
+  pub before : List (Check F)
+  pub after : List (Check F)
+  pub split : checks ≡ before ++ (record { fails = true; fault = fault } ∷ after)
+  pub passed : Passed before
