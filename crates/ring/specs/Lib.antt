@@ -1,3 +1,7 @@
 pub mod Bytes
 pub mod Checks
+pub mod Coefficients
+pub mod Extension
+pub mod Kinds
+pub mod Modular
 pub mod Operations

@@ -1,7 +1,7 @@
 // What a ring kind offers, and the laws that it keeps.
 ghost use mathlib.Core.Path.{_≡_};
 ghost use mathlib.Core.Bool.{cond};
-ghost use Rattle.ring.specs.Operations.{Operations};
+ghost use Rattle.ring.specs.Operations.{Operations, Laws};
 
 // An element stands for a value; each function computes its operation on values.
 pub trait Ring: Copy {
@@ -11,21 +11,8 @@ pub trait Ring: Copy {
     // the value that an element stands for
     ghost value: { Self → ops .Value };
 
-    law plus_assoc: { (a b c : ops .Value) → ops .plus (ops .plus a b) c ≡ ops .plus a (ops .plus b c) };
-
-    law plus_comm: { (a b : ops .Value) → ops .plus a b ≡ ops .plus b a };
-
-    law plus_nought: { (a : ops .Value) → ops .plus a (ops .nought) ≡ a };
-
-    law times_assoc: { (a b c : ops .Value) → ops .times (ops .times a b) c ≡ ops .times a (ops .times b c) };
-
-    law times_comm: { (a b : ops .Value) → ops .times a b ≡ ops .times b a };
-
-    law times_one: { (a : ops .Value) → ops .times a (ops .one) ≡ a };
-
-    law minus_plus: { (a b : ops .Value) → ops .plus (ops .minus a b) b ≡ a };
-
-    law times_plus: { (a b c : ops .Value) → ops .times a (ops .plus b c) ≡ ops .plus (ops .times a b) (ops .times a c) };
+    // plus and times are associative and commutative, zero and one are neutral, (a - b) + b is a, and times distributes over plus
+    law lawful: { Laws ops };
 
     fn zero() -> Self
         ensures { λ r. ⌜ value r ≡ ops .nought ⌝ };

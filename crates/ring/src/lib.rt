@@ -1,3 +1,20 @@
 // The rings that a table's cells are of: what a ring is, residues, words and pairs, and their bytes.
+mod coefficient;
+mod fault;
 mod kind;
+mod number;
+mod pair;
+mod residue;
+mod word;
+pub use coefficient::Coefficient;
+pub use fault::RingError;
 pub use kind::Ring;
+pub use pair::Pair;
+pub use pair::PairCoefficient;
+pub use pair::PairRing;
+pub use residue::Residue;
+pub use residue::ResidueCoefficient;
+pub use residue::ResidueRing;
+pub use word::Word;
+pub use word::WordCoefficient;
+pub use word::WordRing;
