@@ -26,7 +26,7 @@ module _ (K : Operations) (L : Laws K) where
 
   pub times-nought : (a : K .Value) → K .times a (K .nought) ≡ K .nought
   times-nought a = plus-cancel (K .times a (K .nought)) (K .nought) (K .times a (K .nought))
-    (sym (L .times-plus a (K .nought) (K .nought)) ∙ ap (K .times a) (L .plus-nought (K .nought)) ∙ sym (nought-plus (K .times a (K .nought))))
+      (sym (L .times-plus a (K .nought) (K .nought)) ∙ ap (K .times a) (L .plus-nought (K .nought)) ∙ sym (nought-plus (K .times a (K .nought))))
 
   pub nought-times : (a : K .Value) → K .times (K .nought) a ≡ K .nought
   nought-times a = L .times-comm (K .nought) a ∙ times-nought a

@@ -5,6 +5,9 @@ use Prim.Native.Nat.{ℕ, _+_, _-_, _*_, _/_, _%_, _<_, _≤_}
 use native.Mathlib.Bridge.{le-prop}
 use native.Mathlib.Nat.{add-assoc, add-comm, add-zero, mul-assoc, mul-comm, mul-one, mul-add, add-mul, mod-add-mod, add-mod-mod, mod-add-div, add-mul-mod-self-left, mod-eq-of-lt, mod-mod, add-mod, add-mod-right, add-mul-mod-self-right}
 use native.Mathlib.Omega.{arith}
+use borrow.Author.Tests.{eq-eqb, eqb-true}
+use lib.Dec.{eqb}
+use Rattle.std.specs.Orderings.{Decides}
 use Rattle.ring.proofs.Algebra.{plus-cancel}
 use Rattle.ring.specs.Modular.{Below, remainder, modular}
 use Rattle.ring.specs.Operations.{Operations, Laws}
@@ -55,7 +58,11 @@ module _ (m : ℕ) (positive : 0 < m) where
   pub minus-of : (a b k : ℕ) → b ≤ k * m → remainder m positive (a + (k * m - b)) ≡ modular m positive .minus (remainder m positive a) (remainder m positive b)
   minus-of a b k enough =
       plus-cancel (modular m positive) (modular-laws m positive) _ _ (remainder m positive b)
-        (sym (plus-of (a + (k * m - b)) b) ∙ ap (remainder m positive) refill ∙ remainder-same m positive (a + k * m) a (add-mul-mod-self-right a k m) ∙ sym (modular-laws m positive .minus-plus (remainder m positive a) (remainder m positive b)))
+      (sym (plus-of (a + (k * m - b)) b) ∙ ap (remainder m positive) refill ∙ remainder-same m positive (a + k * m) a (add-mul-mod-self-right a k m) ∙ sym (modular-laws m positive .minus-plus (remainder m positive a) (remainder m positive b)))
     where
       refill : a + (k * m - b) + b ≡ a + k * m
       refill = omega arith
+
+-- two remainders are equal exactly where their numbers are
+pub decides : {m : ℕ} (x y : Below m) (a b : ℕ) → a ≡ x .0 → b ≡ y .0 → Decides (eqb a b) (x ≡ y)
+decides x y a b p q = (λ t. same-number (sym p ∙ eqb-true a b t ∙ q), λ e. eq-eqb a b (p ∙ ap (λ v. v .0) e ∙ sym q))

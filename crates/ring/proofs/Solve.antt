@@ -16,7 +16,6 @@ pub data Expr : Type 0 where
 
 infixl 60 _⊕_
 infixl 70 _⊗_
-
 -- a product by the places of its factors in order, and a sum by its products in order
 abbrev put : ℕ → List ℕ → List ℕ
 put i [] = i ∷ []

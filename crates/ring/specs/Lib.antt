@@ -4,4 +4,5 @@ pub mod Coefficients
 pub mod Extension
 pub mod Kinds
 pub mod Modular
+pub mod Numbers
 pub mod Operations

@@ -34,7 +34,14 @@ pub(crate) fn number_of(bytes: &[u8]) -> Option<u64>
         return None;
     }
     let spelled = [
-        bytes[0], bytes[1], bytes[2], bytes[3], bytes[4], bytes[5], bytes[6], bytes[7],
+        bytes[0],
+        bytes[1],
+        bytes[2],
+        bytes[3],
+        bytes[4],
+        bytes[5],
+        bytes[6],
+        bytes[7],
     ];
     Some(u64::from_be_bytes(spelled))
 }

@@ -1,11 +1,16 @@
 // Pairs a + b·u over any ring, where u·u is the one below added eleven times.
+ghost use mathlib.Core.Bool.{Bool, _&&_};
 ghost use mathlib.Core.List.{_++_};
+ghost use Rattle.std.specs.Written.{then};
+ghost use Rattle.std.specs.declared.option.Option.the-variants.{Some};
+ghost use lib.Chars.{codes};
 ghost use mathlib.Core.Path.{_≡_};
 ghost use Prim.Native.Nat.{_+_};
 ghost use Rattle.ring.specs.Extension.{pairs, copies};
 use crate::coefficient::Coefficient;
 use crate::fault::RingError;
 use crate::kind::Ring;
+use std::fmt;
 
 #[derive(Clone, Copy)]
 pub struct Pair<R> {
@@ -109,5 +114,35 @@ pub impl<R: Coefficient> Coefficient for Pair<R> as PairCoefficient {
         let a = R::read(&bytes[0..half])?;
         let b = R::read(&bytes[half..whole])?;
         Some(Pair { a, b })
+    }
+}
+
+// Equal where both parts are.
+pub impl<R: PartialEq<R>> PartialEq<Pair<R>> for Pair<R> as PairPartialEq {
+    ghost equals = { λ x y r. (p : Bool) × (q : Bool) × R·PartialEq .equals (x .a) (y .a) p × R·PartialEq .equals (x .b) (y .b) q × (r ≡ p && q) };
+
+    fn eq(&self, other: &Pair<R>) -> bool {
+        self.a.eq(&other.a) & self.b.eq(&other.b)
+    }
+}
+
+pub impl<R: Eq> Eq for Pair<R> as PairEq {}
+
+// The two parts with a comma between them.
+pub impl<R: fmt::Display> fmt::Display for Pair<R> as PairDisplay {
+    ghost shown = { λ x. then (R·Display .shown (x .a)) (then (Some (codes ",")) (R·Display .shown (x .b))) };
+
+    fn fmt<W: fmt::Write>(&self, f: &mut fmt::Formatter<W>) -> fmt::Result {
+        let a = &self.a;
+        let b = &self.b;
+        write!(f, "{a},{b}")
+    }
+}
+
+pub impl<R: fmt::Debug> fmt::Debug for Pair<R> as PairDebug {
+    fn fmt<W: fmt::Write>(&self, f: &mut fmt::Formatter<W>) -> fmt::Result {
+        let a = &self.a;
+        let b = &self.b;
+        write!(f, "{a:?},{b:?}")
     }
 }

@@ -1,5 +1,8 @@
 // Residues: numbers below 15 · 2^27 + 1, a prime.
 ghost use mathlib.Core.Path.{_≡_};
+ghost use Rattle.std.specs.Orderings.{Decides};
+ghost use Rattle.std.specs.Written.{decimal};
+ghost use Rattle.std.specs.declared.option.Option.the-variants.{Some};
 ghost use Rattle.ring.specs.Bytes.{eight};
 ghost use Rattle.ring.specs.Kinds.{residues, residueOf, residueValue};
 use crate::coefficient::Coefficient;
@@ -7,6 +10,7 @@ use crate::fault::RingError;
 use crate::kind::Ring;
 use crate::number::number_of;
 use crate::number::put_number;
+use std::fmt;
 
 // The number of residues.
 pub const MODULUS: u32 = 2013265921;
@@ -95,5 +99,33 @@ pub impl Coefficient for Residue as ResidueCoefficient {
         } else {
             None
         }
+    }
+}
+
+// Equal where the values are.
+pub impl PartialEq<Residue> for Residue as ResiduePartialEq {
+    ghost equals = { λ x y r. Decides r (residueValue x ≡ residueValue y) };
+
+    fn eq(&self, other: &Residue) -> bool {
+        self.number() == other.number()
+    }
+}
+
+pub impl Eq for Residue as ResidueEq {}
+
+// The canonical number in decimal.
+pub impl fmt::Display for Residue as ResidueDisplay {
+    ghost shown = { λ x. Some (decimal (residueValue x .0)) };
+
+    fn fmt<W: fmt::Write>(&self, f: &mut fmt::Formatter<W>) -> fmt::Result {
+        let number = self.number();
+        write!(f, "{number}")
+    }
+}
+
+pub impl fmt::Debug for Residue as ResidueDebug {
+    fn fmt<W: fmt::Write>(&self, f: &mut fmt::Formatter<W>) -> fmt::Result {
+        let number = self.number();
+        write!(f, "{number}")
     }
 }

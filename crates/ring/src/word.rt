@@ -1,5 +1,8 @@
 // Words: numbers that wrap at 2^64.
 ghost use mathlib.Core.Path.{_≡_};
+ghost use Rattle.std.specs.Orderings.{Decides};
+ghost use Rattle.std.specs.Written.{decimal};
+ghost use Rattle.std.specs.declared.option.Option.the-variants.{Some};
 ghost use Rattle.ring.specs.Bytes.{eight};
 ghost use Rattle.ring.specs.Kinds.{words, wordOf, wordValue};
 use crate::coefficient::Coefficient;
@@ -7,6 +10,7 @@ use crate::fault::RingError;
 use crate::kind::Ring;
 use crate::number::number_of;
 use crate::number::put_number;
+use std::fmt;
 
 #[derive(Clone, Copy)]
 pub struct Word {
@@ -79,5 +83,33 @@ pub impl Coefficient for Word as WordCoefficient {
     fn read(bytes: &[u8]) -> Option<Word> {
         let number = number_of(bytes)?;
         Some(Word { number })
+    }
+}
+
+// Equal where the values are.
+pub impl PartialEq<Word> for Word as WordPartialEq {
+    ghost equals = { λ x y r. Decides r (wordValue x ≡ wordValue y) };
+
+    fn eq(&self, other: &Word) -> bool {
+        self.number() == other.number()
+    }
+}
+
+pub impl Eq for Word as WordEq {}
+
+// The canonical number in decimal.
+pub impl fmt::Display for Word as WordDisplay {
+    ghost shown = { λ x. Some (decimal (wordValue x .0)) };
+
+    fn fmt<W: fmt::Write>(&self, f: &mut fmt::Formatter<W>) -> fmt::Result {
+        let number = self.number();
+        write!(f, "{number}")
+    }
+}
+
+pub impl fmt::Debug for Word as WordDebug {
+    fn fmt<W: fmt::Write>(&self, f: &mut fmt::Formatter<W>) -> fmt::Result {
+        let number = self.number();
+        write!(f, "{number}")
     }
 }
