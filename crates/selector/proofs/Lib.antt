@@ -1,0 +1,4 @@
+pub mod Automaton
+pub mod Steps
+pub mod Sums
+pub mod Weights

@@ -1,0 +1,3 @@
+pub mod Automaton
+pub mod Sums
+pub mod Weights

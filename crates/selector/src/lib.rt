@@ -1,0 +1,1 @@
+// The selector: weights of a point, the selector's table, and its value at a dense point.
