@@ -15,7 +15,7 @@ abbrev pub PowersOfTwo : Type 0
 PowersOfTwo = (n : ℕ) → Decides (powerOfTwo n) ((k : ℕ) × (n ≡ 2 ^ k))
 
 -- the first of the exponents e, e + 1, .. whose power of two is at least n, where `more` of them are looked at
-abbrev firstFrom : ℕ → ℕ → ℕ → ℕ
+abbrev pub firstFrom : ℕ → ℕ → ℕ → ℕ
 firstFrom zero e n = e
 firstFrom (suc more) e n = cond (leb n (2 ^ e)) e (firstFrom more (e + 1) n)
 

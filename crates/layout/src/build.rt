@@ -51,9 +51,7 @@ impl JaggedLayout {
         ensures least { λ _. ⌜ Covering ⌝ }
         ensures lawful { λ _. ⌜ AllLawful ⌝ }
     {
-        check_counts(row_variables, heights.len())?;
-        let area = area_of(row_variables, heights)?;
-        let dense_variables = dense_for(area, min_dense_variables)?;
+        let dense_variables = checked_dense_variables(row_variables, heights, min_dense_variables)?;
         *self = JaggedLayout {
             row_variables,
             dense_variables,
@@ -62,6 +60,19 @@ impl JaggedLayout {
         };
         Ok(())
     }
+}
+
+// Runs every check of an asked layout, and gives its dense variables.
+fn checked_dense_variables(
+    row_variables: usize,
+    heights: &[usize],
+    minimum: usize,
+) -> Result<usize, JaggedLayoutError>
+    ensures { λ r. ⌜ r ≡ verdict (checks «row_variables» (now (heights .entry)) minimum) (denseFor (sum (now (heights .entry))) minimum) ⌝ }
+{
+    check_counts(row_variables, heights.len())?;
+    let area = area_of(row_variables, heights)?;
+    dense_for(area, minimum)
 }
 
 fn check_counts(row_variables: usize, columns: usize) -> Result<(), JaggedLayoutError>

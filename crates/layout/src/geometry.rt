@@ -2,7 +2,7 @@
 ghost use mathlib.Core.Bool.{true};
 ghost use mathlib.Core.Path.{_≡_};
 ghost use Prim.Native.Nat.{ℕ, _+_, _^_, _<_, _≤_};
-ghost use lib.ListN.{getD};
+ghost use lib.ListN.{length, getD};
 ghost use Rattle.layout.specs.Powers.{powerOfTwo};
 ghost use Rattle.layout.specs.Shape.{maxColumns};
 
@@ -23,6 +23,7 @@ pub struct JaggedLayout {
     ghost few: { columns ≤ maxColumns },
     ghost rows: { «row_variables» < 64 },
     ghost dense: { «dense_variables» < 64 },
+    ghost long: { length boundaries ≡ maxColumns + 1 },
     ghost origin: { getD boundaries 0 0 ≡ 0 },
     ghost ascends: { (y : ℕ) → y < columns → getD boundaries y 0 ≤ getD boundaries (y + 1) 0 },
     ghost bounded: { (y : ℕ) → y < columns → getD boundaries (y + 1) 0 ≤ getD boundaries y 0 + 2 ^ «row_variables» },

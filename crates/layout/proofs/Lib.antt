@@ -1,0 +1,4 @@
+pub mod Plans
+pub mod Powers
+pub mod Shapes
+pub mod Verdicts
