@@ -1,3 +1,4 @@
+pub mod Encodings
 pub mod Plans
 pub mod Powers
 pub mod Shapes

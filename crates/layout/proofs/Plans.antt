@@ -109,3 +109,10 @@ module _ (rows : ℕ) (heights : List ℕ) (minimum : ℕ) where
             let below : covering (max (sum heights) 1) ≤ dense = omega arith in
             omega (arith, covering-least (max (sum heights) 1) .holds, pow-mono below);
         }
+
+  module _ (dense : ℕ) (accepted : verdict (checks rows heights minimum) (denseFor (sum heights) minimum) ≡ Ok dense) where
+    pub accepted-passed : Passed (checks rows heights minimum)
+    accepted-passed = passed-from-ok (checks rows heights minimum) (denseFor (sum heights) minimum) dense accepted
+
+    pub accepted-dense : dense ≡ denseFor (sum heights) minimum
+    accepted-dense = let all = verdict-all (checks rows heights minimum) (denseFor (sum heights) minimum) accepted-passed in cc

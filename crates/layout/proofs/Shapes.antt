@@ -22,6 +22,9 @@ use Rattle.layout.proofs.Powers.{powers-of-two}
 abbrev pub between : List ℕ → ℕ → ℕ
 between bs y = getD bs (y + 1) 0 - getD bs y 0
 
+pub same-shape : (S T : Shape) → S .rows ≡ T .rows → S .dense ≡ T .dense → S .heights ≡ T .heights → S ≡ T
+same-shape S T rows dense heights i = record { rows = rows i; dense = dense i; heights = heights i }
+
 pub start-more : (S : Shape) (y : ℕ) → y < columns S → start S (y + 1) ≡ start S y + height S y
 start-more S y h = sumBy-more (λ x. x) (S .heights) y 0 h
 

@@ -11,7 +11,7 @@ use Rattle.std.specs.Iters.{counting}
 use Rattle.std.specs.Results.{Cases}
 use Rattle.std.specs.shelf.Lists.{joined}
 use Rattle.std.proofs.shelf.Counted.{map-counting-more}
-use Rattle.std.proofs.shelf.Lists.{joined-more, map-id}
+use Rattle.std.proofs.shelf.Lists.{append-nil, joined-more, map-id}
 use Rattle.std.proofs.shelf.Results.{cases-weaker}
 use Rattle.std.proofs.shelf.Tests.{cases-bool, cond-true, cond-false}
 use Rattle.ring.specs.Checks.{Check, verdict, Passed, First}
@@ -41,6 +41,10 @@ module _ {F : Type 0} where
       b ∙ verdict-refused xs ys t u e (sym a ∙ h))
       (cases-bool (x .fails))
 
+  -- a fault does not depend on what an accepted call answers
+  pub verdict-err : {T U : Type 0} (xs : List (Check F)) (t : T) (u : U) (e : F) → verdict xs u ≡ Err e → verdict xs t ≡ Err e
+  verdict-err xs t u e h = subst (λ ys. verdict ys t ≡ Err e) (append-nil xs) (verdict-refused xs [] t u e h)
+
   pub passed-from-ok : {T : Type 0} (xs : List (Check F)) (u v : T) → verdict xs u ≡ Ok v → Passed xs
   passed-from-ok [] u v h = tt
   passed-from-ok (x ∷ xs) u v h =
@@ -69,6 +73,9 @@ module _ {F : Type 0} where
   pub told : {T : Type 0} (cs : List (Check F)) (t : T) → Cases (verdict cs t) (λ _. Passed cs) (First cs)
   told [] t = tt
   told (c ∷ cs) t = told-more (c .fails) (c .fault) cs t (told cs t)
+
+  pub first-from-err : {T : Type 0} (cs : List (Check F)) (t : T) (e : F) → verdict cs t ≡ Err e → First cs e
+  first-from-err cs t e h = subst (λ r. Cases r (λ _. Passed cs) (First cs)) h (told cs t)
 
   passed-append : (xs ys : List (Check F)) → Passed xs → Passed ys → Passed (xs ++ ys)
   passed-append [] ys p q = q
