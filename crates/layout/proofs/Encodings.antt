@@ -61,7 +61,7 @@ bytes-tell (suc k) m n h =
     let base = pow-succ' 256 k in
     let low = bytes-tell k m n (ap (drop 1) h) in
     let digit = ap (λ l. getD l 0 0) h in
-    ap (λ b. m % b) base ∙ mod-mul m (omega arith) some ∙ ap (λ x. x * 256 ^ k + m % 256 ^ k) digit ∙ ap (λ x. _ + x) low ∙ sym (mod-mul n (omega arith) some) ∙ sym (ap (λ b. n % b) base)
+    ap (λ b. m % b) base ∙ mod-mul m (omega arith) some ∙ ap (λ x. x * 256 ^ k + m % 256 ^ k) digit ∙ ap (λ x. (n / 256 ^ k % 256) * 256 ^ k + x) low ∙ sym (mod-mul n (omega arith) some) ∙ sym (ap (λ b. n % b) base)
 
 eight-tells : (m n : ℕ) → m < 2 ^ 64 → n < 2 ^ 64 → eight m ≡ eight n → m ≡ n
 eight-tells m n p q h = sym (mod-eq-of-lt p) ∙ bytes-tell 8 m n h ∙ mod-eq-of-lt q
@@ -100,6 +100,7 @@ heights-tell S T count same =
     omega (arith, start-more S y h, start-more T y (omega arith), at y (omega arith), at (y + 1) (omega arith)))
 
 pub bytes-tell-shapes : BytesTell
+unfolding layoutBytes
 bytes-tell-shapes S T p q =
     ((λ h.
     let same = numbers-tell (S .rows ∷ S .dense ∷ (columns S + 1) ∷ boundaries S) (T .rows ∷ T .dense ∷ (columns T + 1) ∷ boundaries T) (numbers-fit S p) (numbers-fit T q) h in
@@ -108,4 +109,20 @@ bytes-tell-shapes S T p q =
     (λ e. ap layoutBytes e))
 
 pub bytes-long : (S : Shape) → length (layoutBytes S) ≡ layoutLength S
+unfolding layoutBytes
 bytes-long S = omega (arith, length-numbers (boundaries S), length-map-counting (start S) 0 (columns S + 1))
+
+-- three numbers and the boundaries, each written right after the one before
+pub written : (S : Shape) (d₀ d₁ d₂ d₃ d₄ bs : List ℕ) → 24 ≤ length d₀ → bs ≡ boundaries S → d₁ ≡ paste d₀ 0 (eight (S .rows)) 8 → d₂ ≡ paste d₁ 8 (eight (S .dense)) 8 → d₃ ≡ paste d₂ 16 (eight (columns S + 1)) 8 → d₄ ≡ paste d₃ 24 (joined eight bs) (8 * length bs) → d₄ ≡ over (layoutBytes S) d₀
+unfolding layoutBytes
+written S d₀ d₁ d₂ d₃ d₄ bs fits same rows dense count rest =
+    let r = eight (S .rows) in
+    let d = eight (S .dense) in
+    let c = eight (columns S + 1) in
+    let two = dense ∙ ap (λ b. paste b 8 d 8) rows ∙ paste-more d₀ r d 0 8 8 refl refl (omega arith) in
+    let three = count ∙ ap (λ b. paste b 16 c 8) two ∙ paste-more d₀ (r ++ d) c 0 16 8 refl refl (omega arith) in
+    rest
+    ∙ ap (λ b. paste b 24 (joined eight bs) (8 * length bs)) three
+    ∙ paste-more d₀ ((r ++ d) ++ c) (joined eight bs) 0 24 (8 * length bs) refl (length-numbers bs) (omega arith)
+    ∙ paste-over d₀ (((r ++ d) ++ c) ++ joined eight bs) (24 + 8 * length bs) (omega (arith, length-numbers bs))
+    ∙ ap (λ l. over (((r ++ d) ++ c) ++ joined eight l) d₀) same

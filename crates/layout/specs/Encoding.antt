@@ -7,7 +7,7 @@ use Rattle.ring.specs.Bytes.{eight}
 use Rattle.layout.specs.Shape.{Shape, Lawful, columns, boundaries}
 
 -- the row variables, the dense variables, the number of boundaries and the boundaries, eight bytes each
-abbrev pub layoutBytes : Shape → List ℕ
+unfoldable pub layoutBytes : Shape → List ℕ
 layoutBytes S = joined eight (S .rows ∷ S .dense ∷ (columns S + 1) ∷ boundaries S)
 
 -- how many bytes that are

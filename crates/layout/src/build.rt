@@ -62,6 +62,16 @@ impl JaggedLayout {
     }
 }
 
+pub impl Default for JaggedLayout as JaggedLayoutDefault {
+    ghost isDefault = { λ l. shape l ≡ emptyShape };
+
+    fn default() -> JaggedLayout
+        ensures { λ r. ⌜ shape r ≡ emptyShape ⌝ }
+    {
+        JaggedLayout::empty()
+    }
+}
+
 // Runs every check of an asked layout, and gives its dense variables.
 fn checked_dense_variables(
     row_variables: usize,

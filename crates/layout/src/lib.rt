@@ -5,6 +5,7 @@ mod error;
 mod geometry;
 mod read;
 
+pub use build::JaggedLayoutDefault;
 pub use error::JaggedLayoutError;
 pub use error::JaggedLayoutErrorDebug;
 pub use error::JaggedLayoutErrorEq;
@@ -13,3 +14,5 @@ pub use geometry::JaggedLayout;
 pub use geometry::JaggedLayoutDebug;
 pub use geometry::MAX_BOUNDARIES;
 pub use geometry::MAX_COLUMNS;
+pub use read::JaggedLayoutEq;
+pub use read::JaggedLayoutPartialEq;

@@ -73,3 +73,18 @@ impl JaggedLayout {
         &self.boundaries[0..self.columns + 1]
     }
 }
+
+// Layouts are equal where their shapes are.
+pub impl PartialEq<JaggedLayout> for JaggedLayout as JaggedLayoutPartialEq {
+    ghost equals = { λ a b r. Decides r (shape a ≡ shape b) };
+
+    fn eq(&self, other: &JaggedLayout) -> bool
+        ensures { λ r. ⌜ Decides r (shape (now (self .entry)) ≡ shape (now (other .entry))) ⌝ }
+    {
+        self.row_variables == other.row_variables
+            && self.dense_variables == other.dense_variables
+            && self.cumulative_heights() == other.cumulative_heights()
+    }
+}
+
+pub impl Eq for JaggedLayout as JaggedLayoutEq {}

@@ -1,17 +1,18 @@
 use mathlib.Core.Path.{_≡_, refl, sym, ap, _∙_}
-use mathlib.Core.List.{_++_}
+use mathlib.Core.List.{[]}
 use Prim.Native.Nat.{_+_, _*_}
 use native.Mathlib.Omega.{arith}
 use lib.ListN.{length, getD, take}
 use lib.Seq.{paste}
 use Rattle.std.specs.shelf.Lists.{joined}
+use Rattle.std.proofs.shelf.Edits.{paste-none}
 use Rattle.std.proofs.shelf.Lists.{length-take-le, take-all}
 use Rattle.ring.specs.Bytes.{eight}
 use Rattle.layout.proofs.Encodings.{paste-more, length-numbers, numbers-more}
 use Rattle.layout.proofs.encode.put_numbers.Needs as need
 
 pub loop-place-holds : need.loop-place-holds
-loop-place-holds c = ?
+loop-place-holds c = paste-none (c .args .bytes .now) (c .args .at) []
 
 pub loop-place-again : need.loop-place-again
 loop-place-again c =
