@@ -100,14 +100,14 @@ module _ (rows : ℕ) (heights : List ℕ) (minimum : ℕ) where
           rows-fit = leb-false 64 rows (counts-passed .1 .1 .1 .0);
           dense-fit = leb-false 64 (denseFor (sum heights) minimum) (dense-passed .1 .0);
           bounded = λ y.
-            ⊎-elim
-            (λ h. ltb-false (2 ^ rows) (getD heights y 0) (passed-at (columnChecks rows heights) (length heights) y h (passed-left (heightChecks rows heights) (denseChecks (sum heights) minimum) rest-passed) .0))
-            (λ h. omega (arith, getD-past heights y 0 h))
-            (cases-lt y (length heights));
+              ⊎-elim
+              (λ h. ltb-false (2 ^ rows) (getD heights y 0) (passed-at (columnChecks rows heights) (length heights) y h (passed-left (heightChecks rows heights) (denseChecks (sum heights) minimum) rest-passed) .0))
+              (λ h. omega (arith, getD-past heights y 0 h))
+              (cases-lt y (length heights));
           covered =
-            let dense = denseFor (sum heights) minimum in
-            let below : covering (max (sum heights) 1) ≤ dense = omega arith in
-            omega (arith, covering-least (max (sum heights) 1) .holds, pow-mono below);
+              let dense = denseFor (sum heights) minimum in
+              let below : covering (max (sum heights) 1) ≤ dense = omega arith in
+              omega (arith, covering-least (max (sum heights) 1) .holds, pow-mono below);
         }
 
   module _ (dense : ℕ) (accepted : verdict (checks rows heights minimum) (denseFor (sum heights) minimum) ≡ Ok dense) where

@@ -54,9 +54,10 @@ ones-power k =
     sym (ap ones e) ∙ ones-cat k 1 0 (pow-pos k)
 
 pub powers-of-two : PowersOfTwo
-powers-of-two n =
-    ((λ t. (trailingZeros n n, sym (one-digit n n (below-power n) (eqb-true (ones n) 1 t)))),
-    (λ w. eq-eqb (ones n) 1 (ap ones (w .1) ∙ ones-power (w .0))))
+powers-of-two n = (
+  (λ t. (trailingZeros n n, sym (one-digit n n (below-power n) (eqb-true (ones n) 1 t)))),
+  (λ w. eq-eqb (ones n) 1 (ap ones (w .1) ∙ ones-power (w .0))),
+)
 
 first-from : (more e n : ℕ) → ((k : ℕ) → k < e → n ≤ 2 ^ k → ⊥) → n ≤ 2 ^ (e + more) → Least (λ e. n ≤ 2 ^ e) (firstFrom more e n)
 first-from zero e n below h = record {

@@ -16,3 +16,6 @@ pub use geometry::MAX_BOUNDARIES;
 pub use geometry::MAX_COLUMNS;
 pub use read::JaggedLayoutEq;
 pub use read::JaggedLayoutPartialEq;
+
+#[cfg(test)]
+mod tests;

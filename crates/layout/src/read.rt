@@ -81,9 +81,12 @@ pub impl PartialEq<JaggedLayout> for JaggedLayout as JaggedLayoutPartialEq {
     fn eq(&self, other: &JaggedLayout) -> bool
         ensures { λ r. ⌜ Decides r (shape (now (self .entry)) ≡ shape (now (other .entry))) ⌝ }
     {
-        self.row_variables == other.row_variables
-            && self.dense_variables == other.dense_variables
-            && self.cumulative_heights() == other.cumulative_heights()
+        if self.row_variables != other.row_variables
+            || self.dense_variables != other.dense_variables
+        {
+            return false;
+        }
+        self.cumulative_heights() == other.cumulative_heights()
     }
 }
 

@@ -11,17 +11,34 @@ use Rattle.layout.proofs.Shapes.{zeros}
 use Rattle.layout.proofs.geometry.JaggedLayout.empty.Needs as need
 
 pub ghost-result : need.ghost-result
-ghost-result c =
-    (eq-eqb (ones 1) 1 (ones-power 0),
-    (lit≤ tt,
-    (lit< tt,
-    (lit< tt,
-    (length-replicate {A = ℕ} 257 0,
-    (refl,
-    ((λ y h. omega (arith, zeros 257 y, zeros 257 (y + 1))),
-    ((λ y h. omega (arith, zeros 257 y, zeros 257 (y + 1))),
-    (lit≤ tt,
-    ((λ y h. zeros 257 y), tt))))))))))
+ghost-result c = (
+  eq-eqb (ones 1) 1 (ones-power 0),
+  (
+    lit≤ tt,
+    (
+      lit< tt,
+      (
+        lit< tt,
+        (
+          length-replicate {A = ℕ} 257 0,
+          (
+            refl,
+            (
+              (λ y h. omega (arith, zeros 257 y, zeros 257 (y + 1))),
+              (
+                (λ y h. omega (arith, zeros 257 y, zeros 257 (y + 1))),
+                (
+                  lit≤ tt,
+                  ((λ y h. zeros 257 y), tt),
+                ),
+              ),
+            ),
+          ),
+        ),
+      ),
+    ),
+  ),
+)
 
 pub returns : need.returns
 unfolding shape

@@ -35,8 +35,8 @@ returns c =
     record {
       answer = grind (arith, tells, columns-are l);
       after =
-        written (shape l) (c .args .bytes .now) (c .put-number .last .bytes) (c .put-number-2 .last .bytes) (c .put-number-3 .last .bytes) (c .put-numbers .last .bytes) (c .cumulative-heights .result .now)
-        (omega arith) (c .cumulative-heights .ensures) (c .put-number .ensures) (c .put-number-2 .ensures) (c .put-number-3 .ensures ∙ ap (λ n. paste (c .put-number-2 .last .bytes) 16 (eight (n + 1)) 8) (sym (columns-are l))) (c .put-numbers .ensures);
+          written (shape l) (c .args .bytes .now) (c .put-number .last .bytes) (c .put-number-2 .last .bytes) (c .put-number-3 .last .bytes) (c .put-numbers .last .bytes) (c .cumulative-heights .result .now)
+          (omega arith) (c .cumulative-heights .ensures) (c .put-number .ensures) (c .put-number-2 .ensures) (c .put-number-3 .ensures ∙ ap (λ n. paste (c .put-number-2 .last .bytes) 16 (eight (n + 1)) 8) (sym (columns-are l))) (c .put-numbers .ensures);
       len = bytes-long (shape l);
       tell = bytes-tell-shapes;
     }
