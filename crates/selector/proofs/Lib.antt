@@ -1,4 +1,6 @@
-pub mod Automaton
+pub mod Filled
+pub mod Fronts
+pub mod Spreads
 pub mod Steps
+pub mod Suffixes
 pub mod Sums
-pub mod Weights

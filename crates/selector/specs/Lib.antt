@@ -1,3 +1,4 @@
 pub mod Automaton
+pub mod Prefix
 pub mod Sums
 pub mod Weights

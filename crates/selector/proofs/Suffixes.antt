@@ -17,7 +17,7 @@ use Rattle.selector.specs.Sums.{sumTo}
 use Rattle.selector.specs.Weights.{bit, factor, eq}
 use Rattle.selector.specs.Automaton.{coordinate, upper, digit, below, suffix}
 use Rattle.selector.proofs.Sums.{sum-same, sum-times, sum-first, sum-below}
-use Rattle.selector.proofs.Weights.{front, upper-none, upper-front, upper-eq}
+use Rattle.selector.proofs.Fronts.{front, upper-none, upper-front, upper-eq}
 
 strictly : (s e i : ℕ) → below (i + (s / 1 + 0)) (e / 1) false ≡ ltb i (e - s)
 strictly s e i = rw (div-one s, div-one e) (grind (arith, tells))
