@@ -21,7 +21,7 @@ use Rattle.layout.specs.declared.error.JaggedLayoutError.{JaggedLayoutError}
 use Rattle.layout.specs.declared.error.JaggedLayoutError.the-variants.{HeightExceedsRowBound, AreaOverflow}
 use Rattle.layout.specs.Plan.{checks, countChecks, columnChecks, heightChecks, denseChecks, denseFor, planned}
 use Rattle.layout.specs.Powers.{powerOfTwo, covering, Least}
-use Rattle.layout.specs.Shape.{Lawful}
+use Rattle.layout.specs.Shape.{Lawful, maxColumns}
 use Rattle.layout.proofs.Powers.{powers-of-two, covering-least, least-same, one-digit, ones-power}
 use Rattle.layout.proofs.Verdicts.{verdict-passed, verdict-all, verdict-refused, passed-from-ok, passed-left, passed-right, passed-at, passed-more, fails-at}
 
@@ -96,7 +96,7 @@ module _ (rows : ℕ) (heights : List ℕ) (minimum : ℕ) where
         let power = powers-of-two (length heights) .0 plan-power in
         record {
           power = power;
-          few = ltb-false 256 (length heights) (counts-passed .1 .1 .0);
+          few = ltb-false maxColumns (length heights) (counts-passed .1 .1 .0);
           rows-fit = leb-false 64 rows (counts-passed .1 .1 .1 .0);
           dense-fit = leb-false 64 (denseFor (sum heights) minimum) (dense-passed .1 .0);
           bounded = λ y.

@@ -33,7 +33,7 @@ start-more S y h = sumBy-more (λ x. x) (S .heights) y 0 h
 pub area-start : (S : Shape) → start S (columns S) ≡ area S
 area-start S = ap sum (take-all (columns S) (S .heights) (omega arith))
 
-boundary-is : (S : Shape) (y : ℕ) → y ≤ columns S → getD (boundaries S) y 0 ≡ start S y
+pub boundary-is : (S : Shape) (y : ℕ) → y ≤ columns S → getD (boundaries S) y 0 ≡ start S y
 boundary-is S y h = getD-map-counting (start S) 0 (columns S + 1) y y 0 (omega arith) (omega arith)
 
 -- the heights follow from the boundaries

@@ -25,7 +25,7 @@ returns-then-bytes-required c =
 pub put-numbers-requires : need.put-numbers-requires
 put-numbers-requires c κs =
     let l = c .args .self .now in
-    let count = ap length (c .cumulative-heights .ensures) ∙ length-map-counting (start (shape l)) 0 (columns (shape l) + 1) in
+    let count = ap length (c .cumulative-heights .ensures .value) ∙ length-map-counting (start (shape l)) 0 (columns (shape l) + 1) in
     omega (arith, columns-are l, count)
 
 pub returns : need.returns
@@ -36,7 +36,7 @@ returns c =
       answer = grind (arith, tells, columns-are l);
       after =
           written (shape l) (c .args .bytes .now) (c .put-number .last .bytes) (c .put-number-2 .last .bytes) (c .put-number-3 .last .bytes) (c .put-numbers .last .bytes) (c .cumulative-heights .result .now)
-          (omega arith) (c .cumulative-heights .ensures) (c .put-number .ensures) (c .put-number-2 .ensures) (c .put-number-3 .ensures ∙ ap (λ n. paste (c .put-number-2 .last .bytes) 16 (eight (n + 1)) 8) (sym (columns-are l))) (c .put-numbers .ensures);
+          (omega arith) (c .cumulative-heights .ensures .value) (c .put-number .ensures) (c .put-number-2 .ensures) (c .put-number-3 .ensures ∙ ap (λ n. paste (c .put-number-2 .last .bytes) 16 (eight (n + 1)) 8) (sym (columns-are l))) (c .put-numbers .ensures);
       len = bytes-long (shape l);
       tell = bytes-tell-shapes;
     }

@@ -25,6 +25,6 @@ returns c =
     let b = shape (c .args .other .now) in
     let told = matches-decides (c .cumulative-heights .result .now) (c .cumulative-heights-2 .result .now) (c .eq .result) (c .eq .ensures) in
     shapes-decided a b (c .eq .result) (c .if-self-other .left) (c .if-self-other-2 .left) (
-      (λ t. sym (c .cumulative-heights .ensures) ∙ told .0 t ∙ c .cumulative-heights-2 .ensures),
-      (λ e. told .1 (c .cumulative-heights .ensures ∙ e ∙ sym (c .cumulative-heights-2 .ensures))),
+      (λ t. sym (c .cumulative-heights .ensures .value) ∙ told .0 t ∙ c .cumulative-heights-2 .ensures .value),
+      (λ e. told .1 (c .cumulative-heights .ensures .value ∙ e ∙ sym (c .cumulative-heights-2 .ensures .value))),
     )
