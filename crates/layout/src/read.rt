@@ -70,6 +70,7 @@ impl JaggedLayout {
     // The boundaries, where they lie in the layout.
     pub fn cumulative_heights(&self) -> &[usize]
         ensures value { λ r. ⌜ now r ≡ boundaries (shape (now (self .entry))) ⌝ }
+        ensures lawful { λ _. ⌜ Lawful (shape (now (self .entry))) ⌝ }
         ensures place { λ r. ⌜ ptr r .0 ≡ ptr (self .entry) .0 ⌝ ∗ ⌜ ptr r .1 ≡ ptr (self .entry) .1 + 24 ⌝ }
     {
         &self.boundaries[0..self.columns + 1]

@@ -1,4 +1,15 @@
 // The selector: weights of a point, the selector's table, and its value at a dense point.
+mod automaton;
+mod error;
+mod point;
+mod program;
+mod tables;
 mod weights;
 
+pub use error::JaggedError;
+pub use error::JaggedErrorDebug;
+pub use error::JaggedErrorEq;
+pub use error::JaggedErrorPartialEq;
+pub use point::JaggedPoint;
+pub use tables::table;
 pub use weights::equality_prefix;

@@ -4,7 +4,7 @@ ghost use mathlib.Core.Path.{_≡_};
 ghost use Prim.Native.Nat.{ℕ, _*_, _/_, _^_, _<_, _≤_};
 ghost use lib.ListN.{length, getD, drop};
 ghost use Rattle.selector.specs.Prefix.{weightCount, Weighs, Spread};
-ghost use Rattle.selector.specs.Weights.{eq};
+ghost use Rattle.selector.specs.Weights.{bit, factor, eq};
 use ring::Ring;
 
 // Writes the first weights of a point, as many as the buffer has room for, and tells how many.
@@ -33,6 +33,39 @@ pub(crate) fn weigh<R: Ring>(scale: R, point: &[R], buffer: &mut [R]) -> usize
         spread(point[k], shifted(count - 1, width - 1 - k) + 1, buffer);
     }
     count
+}
+
+// The weight of one number.
+pub(crate) fn weight_at<R: Ring>(point: &[R], index: usize) -> R
+    requires narrow { ⌜ length (now point) ≤ 64 ⌝ }
+    requires within { ⌜ index < 2 ^ length (now point) ⌝ }
+    ensures { λ r. ⌜ R·Ring .value r ≡ eq (R·Ring .ops) (map (R·Ring .value) (now (point .entry))) index ⌝ }
+{
+    let mut product = R::one();
+    let width = point.len();
+    for k in 0..width {
+        product = product.times(factor_of(bit_at(index, width - 1 - k), point[k]));
+    }
+    product
+}
+
+// What a coordinate gives to a bit.
+fn factor_of<R: Ring>(set: bool, x: R) -> R
+    ensures { λ r. ⌜ R·Ring .value r ≡ factor (R·Ring .ops) set (R·Ring .value x) ⌝ }
+{
+    if set {
+        x
+    } else {
+        R::one().minus(x)
+    }
+}
+
+// Bit `layer` of a number.
+pub(crate) fn bit_at(number: usize, layer: usize) -> bool
+    requires { ⌜ layer < 64 ⌝ }
+    ensures { λ r. ⌜ r ≡ bit layer number ⌝ }
+{
+    (number >> layer) & 1 == 1
 }
 
 // How many weights a point of so many coordinates gives to a buffer of so many cells.
