@@ -7,7 +7,7 @@ ghost use Rattle.std.specs.shelf.Lists.{sum};
 ghost use Rattle.ring.specs.Checks.{verdict};
 ghost use Rattle.layout.specs.Layout.{shape, AllLawful};
 ghost use Rattle.layout.specs.Plan.{checks, countChecks, heightChecks, denseChecks, denseFor, planned};
-ghost use Rattle.layout.specs.Powers.{PowersOfTwo, Covering};
+ghost use Rattle.layout.specs.Powers.{PowersOfTwo, LeastCovering};
 ghost use Rattle.layout.specs.Rules.{Told};
 ghost use Rattle.layout.specs.Shape.{emptyShape, maxColumns};
 use crate::error::JaggedLayoutError;
@@ -48,7 +48,7 @@ impl JaggedLayout {
         ensures after { λ r. ⌜ Cases r (λ _. shape (now (self .exit)) ≡ planned «row_variables» (now (heights .entry)) «min_dense_variables») (λ _. now (self .exit) ≡ now (self .entry)) ⌝ }
         ensures first { λ r. ⌜ Told (checks «row_variables» (now (heights .entry)) «min_dense_variables») r ⌝ }
         ensures powers { λ _. ⌜ PowersOfTwo ⌝ }
-        ensures least { λ _. ⌜ Covering ⌝ }
+        ensures least { λ _. ⌜ LeastCovering ⌝ }
         ensures lawful { λ _. ⌜ AllLawful ⌝ }
     {
         let dense_variables = checked_dense_variables(row_variables, heights, min_dense_variables)?;

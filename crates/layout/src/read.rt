@@ -26,7 +26,7 @@ impl JaggedLayout {
         ensures answer { λ r. ⌜ r ≡ trailingZeros 64 (columns (shape (now (self .entry)))) ⌝ }
         ensures power { λ r. ⌜ 2 ^ r ≡ columns (shape (now (self .entry))) ⌝ }
     {
-        self.columns.trailing_zeros() as usize
+        self.num_columns().trailing_zeros() as usize
     }
 
     pub fn dense_variables(&self) -> usize
