@@ -11,7 +11,7 @@ use lib.Pow.{pow-mono}
 use Rattle.std.specs.Orderings.{Decides}
 use Rattle.std.proofs.shelf.Bits.{pow-pos, pow-below}
 use Rattle.std.proofs.shelf.Tests.{cases-bool, cond-true, cond-false, leb-true, leb-false, eqb-true, eq-eqb, cases-order, cases-lt}
-use Rattle.layout.specs.Powers.{powerOfTwo, PowersOfTwo, firstFrom, covering, Least, Covering}
+use Rattle.layout.specs.Powers.{powerOfTwo, PowersOfTwo, firstFrom, covering, Least, LeastCovering}
 
 two : (n : ℕ) → (n % 2 ≡ 0) ⊎ (n % 2 ≡ 1)
 two n = ⊎-elim (λ h. inl (omega arith)) (λ h. inr (omega arith)) (cases-lt (n % 2) 1)
@@ -76,7 +76,7 @@ first-from (suc more) e n below h =
     (let s : e + suc more ≡ (e + 1) + more = omega arith in subst (λ x. n ≤ 2 ^ x) s h)))
     (cases-bool (leb n (2 ^ e)))
 
-pub covering-least : Covering
+pub covering-least : LeastCovering
 unfolding covering
 covering-least n =
     first-from n 0 n (λ k l. absurd (omega arith))

@@ -6,7 +6,7 @@ use mathlib.Core.Logic.{⊎-elim}
 use Prim.Native.Nat.{ℕ, zero, suc, min, _+_, _-_, _^_, _≤_, _<_}
 use native.Mathlib.Numerals.{add-one}
 use native.Mathlib.Omega.{arith}
-use lib.Count.{ones}
+use lib.Count.{ones, trailingZeros}
 use lib.ListN.{length, getD, set, take, replicate}
 use Rattle.std.specs.Iters.{counting}
 use Rattle.std.specs.Orderings.{Decides}
@@ -14,11 +14,11 @@ use Rattle.std.specs.shelf.Lists.{sum}
 use Rattle.std.proofs.shelf.Counted.{length-map-counting, getD-map-counting, fill-by-all}
 use Rattle.std.proofs.shelf.Lists.{ext-getD, take-all, getD-past, getD-set-same, getD-set-other, length-take-le, getD-take}
 use Rattle.std.proofs.shelf.Sums.{sumBy-more}
-use Rattle.std.proofs.shelf.Tests.{cases-eq, cases-lt}
+use Rattle.std.proofs.shelf.Tests.{eqb-true, cases-eq, cases-lt}
 use Rattle.layout.specs.declared.geometry.JaggedLayout.{JaggedLayout}
 use Rattle.layout.specs.Layout.{shape, AllLawful}
 use Rattle.layout.specs.Shape.{Shape, Lawful, columns, height, start, area, boundaries}
-use Rattle.layout.proofs.Powers.{powers-of-two}
+use Rattle.layout.proofs.Powers.{one-digit, powers-of-two}
 
 -- the heights between boundaries
 abbrev pub between : List ℕ → ℕ → ℕ
@@ -59,6 +59,11 @@ module _ (l : JaggedLayout) where
   pub columns-are : columns (shape l) ≡ l .columns
   unfolding shape
   columns-are = length-map-counting (between (l .boundaries)) 0 (l .columns)
+
+  pub columns-power : 2 ^ trailingZeros 64 (columns (shape l)) ≡ columns (shape l)
+  columns-power =
+      subst (λ n. 2 ^ trailingZeros 64 n ≡ n) (sym columns-are)
+      (one-digit 64 (l .columns) (omega (arith, l .few)) (eqb-true (ones (l .columns)) 1 (l .power)))
 
   pub height-is : (y : ℕ) → y < l .columns → height (shape l) y ≡ between (l .boundaries) y
   unfolding shape

@@ -4,11 +4,10 @@ ghost use Prim.Native.Nat.{ℕ, _^_, _<_, _≤_};
 ghost use lib.ListN.{length, getD, take};
 ghost use Rattle.std.specs.Results.{Cases};
 ghost use Rattle.std.specs.shelf.Lists.{sum};
-ghost use Rattle.ring.specs.Checks.{verdict};
+ghost use Rattle.ring.specs.Checks.{verdict, Told};
 ghost use Rattle.layout.specs.Layout.{shape, AllLawful};
 ghost use Rattle.layout.specs.Plan.{checks, countChecks, heightChecks, denseChecks, denseFor, planned};
-ghost use Rattle.layout.specs.Powers.{PowersOfTwo, Covering};
-ghost use Rattle.layout.specs.Rules.{Told};
+ghost use Rattle.layout.specs.Powers.{PowersOfTwo, LeastCovering};
 ghost use Rattle.layout.specs.Shape.{emptyShape, maxColumns};
 use crate::error::JaggedLayoutError;
 use crate::geometry::JaggedLayout;
@@ -48,7 +47,7 @@ impl JaggedLayout {
         ensures after { λ r. ⌜ Cases r (λ _. shape (now (self .exit)) ≡ planned «row_variables» (now (heights .entry)) «min_dense_variables») (λ _. now (self .exit) ≡ now (self .entry)) ⌝ }
         ensures first { λ r. ⌜ Told (checks «row_variables» (now (heights .entry)) «min_dense_variables») r ⌝ }
         ensures powers { λ _. ⌜ PowersOfTwo ⌝ }
-        ensures least { λ _. ⌜ Covering ⌝ }
+        ensures least { λ _. ⌜ LeastCovering ⌝ }
         ensures lawful { λ _. ⌜ AllLawful ⌝ }
     {
         let dense_variables = checked_dense_variables(row_variables, heights, min_dense_variables)?;
@@ -135,7 +134,7 @@ fn area_of(row_variables: usize, heights: &[usize]) -> Result<usize, JaggedLayou
 fn dense_for(area: usize, minimum: usize) -> Result<usize, JaggedLayoutError>
     ensures { λ r. ⌜ r ≡ verdict (denseChecks area minimum) (denseFor area minimum) ⌝ }
 {
-    // An empty table still has one place.
+    // The dense vector of an empty table still has one cell.
     let capacity = match area.max(1).checked_next_power_of_two() {
         Some(capacity) => capacity,
         None => return Err(JaggedLayoutError::DenseAreaOverflow { area }),

@@ -6,10 +6,9 @@ ghost use denote.Ref.{ptr};
 ghost use lib.Count.{trailingZeros};
 ghost use lib.Dec.{leb};
 ghost use Rattle.std.specs.Orderings.{Decides};
-ghost use Rattle.ring.specs.Checks.{verdict};
+ghost use Rattle.ring.specs.Checks.{verdict, when};
 ghost use Rattle.layout.specs.declared.error.JaggedLayoutError.the-variants.{NoSuchColumn};
 ghost use Rattle.layout.specs.Layout.{shape};
-ghost use Rattle.layout.specs.Rules.{when};
 ghost use Rattle.layout.specs.Shape.{Lawful, columns, height, area, capacity, boundaries};
 use crate::error::JaggedLayoutError;
 use crate::geometry::JaggedLayout;
@@ -26,7 +25,7 @@ impl JaggedLayout {
         ensures answer { λ r. ⌜ r ≡ trailingZeros 64 (columns (shape (now (self .entry)))) ⌝ }
         ensures power { λ r. ⌜ 2 ^ r ≡ columns (shape (now (self .entry))) ⌝ }
     {
-        self.columns.trailing_zeros() as usize
+        self.num_columns().trailing_zeros() as usize
     }
 
     pub fn dense_variables(&self) -> usize
@@ -48,7 +47,7 @@ impl JaggedLayout {
         self.boundaries[self.columns]
     }
 
-    // The number of places that the dense variables name.
+    // The number of cells of the dense vector.
     pub fn dense_capacity(&self) -> usize
         ensures { λ r. ⌜ r ≡ capacity (shape (now (self .entry))) ⌝ }
     {

@@ -2,6 +2,7 @@
 use mathlib.Core.Path.{_≡_}
 use mathlib.Core.Bool.{Bool, true, false, cond}
 use mathlib.Core.List.{List, [], _∷_, _++_}
+use Rattle.std.specs.Results.{Cases}
 use Rattle.std.specs.declared.result.Result.{Result}
 use Rattle.std.specs.declared.result.Result.the-variants.{Ok, Err}
 
@@ -9,6 +10,10 @@ use Rattle.std.specs.declared.result.Result.the-variants.{Ok, Err}
 pub record Check (F : Type 0) : Type 0 where
   pub fails : Bool
   pub fault : F
+
+-- where this holds, the call is refused with this fault
+abbrev pub when : {F : Type 0} → Bool → F → Check F
+when fails fault = record { fails = fails; fault = fault }
 
 -- the fault of the first check that fails, or else what an accepted call answers
 abbrev pub verdict : {F T : Type 0} → List (Check F) → T → Result T F
@@ -26,3 +31,7 @@ pub record First {F : Type 0} (checks : List (Check F)) (fault : F) : Type 0 whe
   pub after : List (Check F)
   pub split : checks ≡ before ++ (record { fails = true; fault = fault } ∷ after)
   pub passed : Passed before
+
+-- an accepted call passed every check, and a fault is that of the first check that failed
+abbrev pub Told : {F T : Type 0} → List (Check F) → Result T F → Type 0
+Told checks r = Cases r (λ _. Passed checks) (First checks)

@@ -37,3 +37,6 @@ pub use word::WordRing;
 
 // The number of residues.
 pub use residue::MODULUS;
+
+#[cfg(test)]
+mod tests;
