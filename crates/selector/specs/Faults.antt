@@ -4,8 +4,7 @@ use mathlib.Core.List.{List, [], _∷_, _++_}
 use Prim.Native.Nat.{ℕ}
 use lib.Count.{trailingZeros}
 use lib.Dec.{eqb, ltb}
-use Rattle.ring.specs.Checks.{Check}
-use Rattle.layout.specs.Rules.{when}
+use Rattle.ring.specs.Checks.{Check, when}
 use Rattle.layout.specs.Shape.{Shape, columns, capacity}
 use Rattle.selector.specs.declared.error.JaggedError.{JaggedError}
 use Rattle.selector.specs.declared.error.JaggedError.the-variants.{RowPointWidthMismatch, ColumnPointWidthMismatch, DensePointWidthMismatch, BufferTooShort}
