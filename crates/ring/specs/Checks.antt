@@ -20,6 +20,11 @@ abbrev pub verdict : {F T : Type 0} → List (Check F) → T → Result T F
 verdict [] accepted = Ok accepted
 verdict (c ∷ cs) accepted = cond (c .fails) (Err (c .fault)) (verdict cs accepted)
 
+-- a result through what its accepted answer stands for
+abbrev pub onOk : {F A B : Type 0} → (A → B) → Result A F → Result B F
+onOk f (Ok x) = Ok (f x)
+onOk f (Err e) = Err e
+
 -- none of these checks fails
 abbrev pub Passed : {F : Type 0} → List (Check F) → Type 0
 Passed [] = Unit {0}

@@ -2,6 +2,7 @@ pub mod Filled
 pub mod Fronts
 pub mod Places
 pub mod Runs
+pub mod Selectors
 pub mod Spreads
 pub mod Steps
 pub mod Suffixes

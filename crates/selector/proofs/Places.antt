@@ -10,6 +10,7 @@ use borrow.Author.Tests.{ltb-true, ltb-false}
 use borrow.Rule.Slice.PartMut.{putMid}
 use lib.Dec.{ltb}
 use lib.ListN.{length, getD, take, drop}
+use lib.Pow.{pow-mono}
 use Rattle.std.specs.shelf.Lists.{sum}
 use Rattle.std.proofs.shelf.Counted.{length-map-counting}
 use Rattle.std.proofs.shelf.Lists.{map-append, take-map, drop-map, length-map, length-take-le, getD-append-left, getD-append-right, getD-take, take-all}
@@ -18,6 +19,14 @@ use Rattle.layout.specs.Shape.{Shape, Lawful, columns, height, start, area, cap
 use Rattle.layout.proofs.Shapes.{start-more, area-start, boundary-is}
 use Rattle.selector.specs.Selector.{Columns}
 use Rattle.selector.specs.Weights.{eq}
+
+-- a point that names few numbers has few coordinates
+pub narrow : (w : ℕ) → 2 ^ w < 2 ^ 64 → w ≤ 64
+narrow w h = go (ltb w 65) refl
+  where
+    go : (b : Bool) → ltb w 65 ≡ b → w ≤ 64
+    go true t = omega (arith, ltb-true w 65 t)
+    go false t = absurd (omega (arith, pow-mono {i = 64} {j = w} (omega (arith, ltb-false w 65 t))))
 
 map-putMid : {A B : Type 0} (f : A → B) (a k : ℕ) (xs ys : List A) → map f (putMid a k xs ys) ≡ putMid a k (map f xs) (map f ys)
 map-putMid f a k xs ys =

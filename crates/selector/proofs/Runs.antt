@@ -33,9 +33,9 @@ module _ (K : Operations) (L : Laws K) (row dense : List (K .Value)) (start end 
   front-leading zero = refl
   front-leading (suc n) = front-zero K L row n ∙ ap (λ x. K .times x (K .minus (K .one) (getD row n (K .one)))) (front-leading n)
 
-  pub run-top : (zero-one zero-two zero-three leading : K .Value) → start ≤ end → end ≤ 2 ^ length dense → zero-one ≡ K .nought → zero-two ≡ K .nought → zero-three ≡ K .nought → leading ≡ leadingTo K row (length row - (length dense + 1)) → (layer : ℕ) → layer ≡ length dense + 1 → (carry less : Bool) → cond carry (cond less zero-two zero-three) (cond less leading zero-one) ≡ at-layer layer carry less
-  run-top a b c leading ordered inside is-a is-b is-c is-leading layer is carry less =
-      go carry less ∙ sym (suffix-top K L row dense start end layer _ carry less (above start (omega (arith, wide))) (above end (omega (arith, wide))) (omega arith))
+  pub run-top : (leading : K .Value) → start ≤ end → end ≤ 2 ^ length dense → leading ≡ leadingTo K row (length row - (length dense + 1)) → (layer : ℕ) → layer ≡ length dense + 1 → (carry less : Bool) → cond (not carry && less) leading (K .nought) ≡ at-layer layer carry less
+  run-top leading ordered inside is-leading layer is carry less =
+      ap (λ x. cond (not carry && less) x (K .nought)) top ∙ sym (suffix-top K L row dense start end layer _ carry less (above start (omega (arith, wide))) (above end (omega (arith, wide))) (omega arith))
     where
       wide : 2 ^ length dense < 2 ^ layer
       wide = pow-lt (omega arith)
@@ -45,12 +45,6 @@ module _ (K : Operations) (L : Laws K) (row dense : List (K .Value)) (start end 
 
       top : leading ≡ upper K (coordinate K row) layer (length row + (length dense + 1) - layer) 0
       top = is-leading ∙ ap (λ n. leadingTo K row (length row - n)) (sym is) ∙ sym (front-leading (length row - layer)) ∙ sym (leading-front K L row dense start end layer (length row + (length dense + 1) - layer) (omega arith))
-
-      go : (c′ l : Bool) → cond c′ (cond l b c) (cond l leading a) ≡ cond (not c′ && l) (upper K (coordinate K row) layer (length row + (length dense + 1) - layer) 0) (K .nought)
-      go true true = is-b
-      go true false = is-c
-      go false true = top
-      go false false = is-a
 
   pub run-step : (layer : ℕ) (states : Bool → Bool → K .Value) → 0 < layer → layer ≤ length dense + 1 → ((c l : Bool) → states c l ≡ at-layer layer c l) → (carry less : Bool) → stepped K (coordinate K row (layer - 1)) (coordinate K dense (layer - 1)) (bit (layer - 1) start) (bit (layer - 1) end) states carry less ≡ at-layer (layer - 1) carry less
   run-step zero states some deep known carry less = absurd (omega arith)

@@ -65,8 +65,8 @@ module _ (K : Operations) (L : Laws K) where
       ap (λ x. sumTo K x (λ i. cond (ltb i h) (f i) (K .nought))) split
       ∙ sum-add h (n - h) (λ i. cond (ltb i h) (f i) (K .nought))
       ∙ ap₂ (K .plus)
-        (sum-same K h _ f (λ i less. ap (λ b. cond b (f i) (K .nought)) (lt-ltb i h less)))
-        (sum-none (n - h) _ (λ i less. ap (λ b. cond b (f (h + i)) (K .nought)) (le-ltb (h + i) h (omega arith))))
+      (sum-same K h _ f (λ i less. ap (λ b. cond b (f i) (K .nought)) (lt-ltb i h less)))
+      (sum-none (n - h) _ (λ i less. ap (λ b. cond b (f (h + i)) (K .nought)) (le-ltb (h + i) h (omega arith))))
       ∙ L .plus-nought (sumTo K h f)
 
   -- only the first term counts

@@ -26,8 +26,16 @@ pointChecks S row column =
     ∷ when (not (eqb column (columnVariables S))) (ColumnPointWidthMismatch (columnVariables S) column)
     ∷ []
 
+-- what is checked of a buffer that takes an envelope or a table
+abbrev pub roomChecks : Shape → ℕ → List (Check JaggedError)
+roomChecks S cells = when (ltb cells (capacity S)) (BufferTooShort (capacity S) cells) ∷ []
+
 abbrev pub tableChecks : Shape → ℕ → ℕ → ℕ → List (Check JaggedError)
-tableChecks S row column cells = pointChecks S row column ++ (when (ltb cells (capacity S)) (BufferTooShort (capacity S) cells) ∷ [])
+tableChecks S row column cells = pointChecks S row column ++ roomChecks S cells
+
+-- what is checked of a dense point's width
+abbrev pub denseChecks : Shape → ℕ → List (Check JaggedError)
+denseChecks S dense = when (not (eqb dense (S .dense))) (DensePointWidthMismatch (S .dense) dense) ∷ []
 
 abbrev pub evaluateChecks : Shape → ℕ → ℕ → ℕ → List (Check JaggedError)
-evaluateChecks S row column dense = pointChecks S row column ++ (when (not (eqb dense (S .dense))) (DensePointWidthMismatch (S .dense) dense) ∷ [])
+evaluateChecks S row column dense = pointChecks S row column ++ denseChecks S dense

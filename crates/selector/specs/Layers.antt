@@ -2,16 +2,14 @@
 use mathlib.Core.Path.{_≡_}
 use mathlib.Core.Bool.{Bool, true, false, cond}
 use mathlib.Core.List.{List}
-use Prim.Native.Nat.{ℕ, _+_, _-_, _^_, _≤_, _<_}
-use lib.ListN.{length, getD}
+use Prim.Native.Nat.{ℕ, _+_, _-_}
+use lib.ListN.{getD}
 use Rattle.ring.specs.Operations.{Operations}
-use Rattle.selector.specs.Automaton.{coordinate}
 use Rattle.selector.specs.Sums.{sumTo, productTo}
 use Rattle.selector.specs.Weights.{eq, factor}
 use Rattle.selector.specs.declared.automaton.Layer.{Layer}
 use Rattle.selector.specs.declared.automaton.Compared.{Compared}
 use Rattle.selector.specs.declared.automaton.States.{States}
-use Rattle.selector.specs.declared.program.Program.{Program}
 
 -- one minus each of the first n coordinates, multiplied
 abbrev pub leadingTo : (K : Operations) → List (K .Value) → ℕ → K .Value
@@ -35,9 +33,3 @@ module _ (K : Operations) {R : Type 0} (value : R → K .Value) where
 
   abbrev pub stateAt : States R → Bool → Bool → K .Value
   stateAt s carry less = cond carry (comparedAt (s .carried) less) (comparedAt (s .plain) less)
-
-  -- a program read off a row and a dense point: a layer for each dense coordinate and one above, and what lies above those in one factor
-  pub record Reads (row dense : List (K .Value)) (p : Program R) : Type 0 where
-    pub depth : p .depth ≡ length dense
-    pub layers : (k : ℕ) → k ≤ length dense → (other : Layer R) → Products (coordinate K row k) (coordinate K dense k) (getD (p .layers) k other)
-    pub leading : value (p .leading) ≡ leadingTo K row (length row - (length dense + 1))

@@ -9,7 +9,7 @@
 //   index bit t = row bit + s + carry, its lowest bit; what is over is carried on
 //   less is kept where t = e, and else becomes e
 //   first state: no carry, not less; accepted: no carry, less
-ghost use mathlib.Core.Bool.{true, false};
+ghost use mathlib.Core.Bool.{true, false, not, cond, _&&_};
 ghost use mathlib.Core.Path.{_≡_};
 ghost use mathlib.Core.List.{map};
 ghost use Rattle.selector.specs.Automaton.{coordinate, lessOut, stepped};
@@ -64,8 +64,30 @@ pub(crate) fn layer_of<R: Ring>(row: R, dense: R) -> Layer<R>
     }
 }
 
+// The states above every layer that is read: a weight where there is no carry and the index is below the end, else zero.
+pub(crate) fn accepting<R: Ring>(weight: R) -> States<R>
+    ensures { λ r. ⌜ ((carry less : _) → stateAt (R·Ring .ops) (R·Ring .value) r carry less ≡ cond (not carry && less) (R·Ring .value weight) (R·Ring .ops .nought)) ⌝ }
+{
+    States {
+        plain: Compared {
+            level: R::zero(),
+            below: weight,
+        },
+        carried: Compared {
+            level: R::zero(),
+            below: R::zero(),
+        },
+    }
+}
+
 // The comparison's weights from those above, where the index bit is 0 and where it is 1, each with its product.
-fn blend<R: Ring>(end: bool, zero: R, at_zero: &Compared<R>, one: R, at_one: &Compared<R>) -> Compared<R>
+fn blend<R: Ring>(
+    end: bool,
+    zero: R,
+    at_zero: &Compared<R>,
+    one: R,
+    at_one: &Compared<R>,
+) -> Compared<R>
     ensures { λ r. ⌜ ((less : _) → comparedAt (R·Ring .ops) (R·Ring .value) r less ≡ R·Ring .ops .plus (R·Ring .ops .times (R·Ring .value zero) (comparedAt (R·Ring .ops) (R·Ring .value) (now («at_zero» .entry)) (lessOut false end less))) (R·Ring .ops .times (R·Ring .value one) (comparedAt (R·Ring .ops) (R·Ring .value) (now («at_one» .entry)) (lessOut true end less)))) ⌝ }
 {
     if end {
@@ -84,15 +106,32 @@ fn blend<R: Ring>(end: bool, zero: R, at_zero: &Compared<R>, one: R, at_one: &Co
 }
 
 // The states of a layer from those of the layer above, by six multiplications.
-pub(crate) fn step<R: Ring>(layer: &Layer<R>, start: bool, end: bool, above: &States<R>) -> States<R>
+pub(crate) fn step<R: Ring>(
+    layer: &Layer<R>,
+    start: bool,
+    end: bool,
+    above: &States<R>,
+) -> States<R>
     ensures { λ r. ⌜ ((row dense : R·Ring .ops .Value) → Products (R·Ring .ops) (R·Ring .value) row dense (now (layer .entry)) → (carry less : _) → stateAt (R·Ring .ops) (R·Ring .value) r carry less ≡ stepped (R·Ring .ops) row dense start end (stateAt (R·Ring .ops) (R·Ring .value) (now (above .entry))) carry less) ⌝ }
 {
     // row bit and index bit differ exactly where one unit is added to the row's
-    let one = blend(end, layer.row_alone, &above.carried, layer.dense_alone, &above.plain);
+    let one = blend(
+        end,
+        layer.row_alone,
+        &above.carried,
+        layer.dense_alone,
+        &above.plain,
+    );
     if start {
         States {
             plain: one,
-            carried: blend(end, layer.neither, &above.carried, layer.both, &above.carried),
+            carried: blend(
+                end,
+                layer.neither,
+                &above.carried,
+                layer.both,
+                &above.carried,
+            ),
         }
     } else {
         States {

@@ -1,8 +1,10 @@
 // A point of the sparse table: row and column coordinates, lent.
 ghost use mathlib.Core.Path.{_≡_};
-ghost use lib.ListN.{length};
+ghost use Prim.Native.Nat.{_^_};
+ghost use Rattle.std.specs.Results.{Cases};
 ghost use Rattle.ring.specs.Checks.{verdict};
 ghost use Rattle.layout.specs.Layout.{shape};
+ghost use Rattle.layout.specs.Shape.{columns};
 ghost use Rattle.selector.specs.Faults.{pointChecks};
 use crate::error::JaggedError;
 use layout::JaggedLayout;
@@ -37,8 +39,13 @@ impl<'a, R> JaggedPoint<'a, R> {
 }
 
 // That the point has as many coordinates as the layout has row and column variables.
-pub(crate) fn check_point(layout: &JaggedLayout, row: usize, column: usize) -> Result<(), JaggedError>
-    ensures { λ r. ⌜ r ≡ verdict (pointChecks (shape (now (layout .entry))) row column) tt ⌝ }
+pub(crate) fn check_point(
+    layout: &JaggedLayout,
+    row: usize,
+    column: usize,
+) -> Result<(), JaggedError>
+    ensures answer { λ r. ⌜ r ≡ verdict (pointChecks (shape (now (layout .entry))) row column) tt ⌝ }
+    ensures widths { λ r. ⌜ Cases r (λ _. (row ≡ shape (now (layout .entry)) .rows) × (2 ^ column ≡ columns (shape (now (layout .entry))))) (λ _. Unit {0}) ⌝ }
 {
     let expected = layout.row_variables();
     if row != expected {

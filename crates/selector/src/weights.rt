@@ -53,11 +53,7 @@ pub(crate) fn weight_at<R: Ring>(point: &[R], index: usize) -> R
 fn factor_of<R: Ring>(set: bool, x: R) -> R
     ensures { λ r. ⌜ R·Ring .value r ≡ factor (R·Ring .ops) set (R·Ring .value x) ⌝ }
 {
-    if set {
-        x
-    } else {
-        R::one().minus(x)
-    }
+    if set { x } else { R::one().minus(x) }
 }
 
 // Bit `layer` of a number.
@@ -83,11 +79,7 @@ fn weight_count(width: usize, cells: usize) -> usize
 fn shifted(number: usize, bits: usize) -> usize
     ensures { λ r. ⌜ r ≡ number / 2 ^ bits ⌝ }
 {
-    if bits < 64 {
-        number >> bits
-    } else {
-        0
-    }
+    if bits < 64 { number >> bits } else { 0 }
 }
 
 // One coordinate more: cell i becomes cells 2i and 2i + 1, as far as they are wanted.

@@ -19,9 +19,9 @@ loop-k-again g c =
     let v = g .R·Ring .value in
     let count = c .weight-count-count .result in
     let wanted = c .shifted .result + 1 in
-    let split : wanted + (count - wanted) ≡ count = omega (arith, c .shifted .ensures, shr-le (count - 1) (length (c .args .point .now) - 1 - c .loop-k .k)) in
-    ( filled-more K (g .R·Ring·met .lawful) _ (map v (c .args .point .now)) count (length (c .args .point .now)) (c .loop-k .k) wanted (v (c .index-point-k .result)) (map v (c .loop-k .buffer)) (map v (c .spread .last .buffer)) (omega arith) (ap v (c .index-point-k .is) ∙ sym (getD-map v (c .args .point .now) (c .loop-k .k) (c .index-point-k .result) (K .one) (omega arith))) (ap (λ n. n + 1) (c .shifted .ensures)) (c .spread .ensures .cells) (c .loop-k .inv .0)
-    , ap (λ n. drop n (c .spread .last .buffer)) (sym split) ∙ sym (drop-drop (count - wanted) wanted (c .spread .last .buffer)) ∙ ap (drop (count - wanted)) (c .spread .ensures .kept) ∙ drop-drop (count - wanted) wanted (c .loop-k .buffer) ∙ ap (λ n. drop n (c .loop-k .buffer)) split ∙ c .loop-k .inv .1
+    let split : wanted + (count - wanted) ≡ count = omega (arith, c .shifted .ensures, shr-le (count - 1) (length (c .args .point .now) - 1 - c .loop-k .k)) in (
+      filled-more K (g .R·Ring·met .lawful) _ (map v (c .args .point .now)) count (length (c .args .point .now)) (c .loop-k .k) wanted (v (c .index-point-k .result)) (map v (c .loop-k .buffer)) (map v (c .spread .last .buffer)) (omega arith) (ap v (c .index-point-k .is) ∙ sym (getD-map v (c .args .point .now) (c .loop-k .k) (c .index-point-k .result) (K .one) (omega arith))) (ap (λ n. n + 1) (c .shifted .ensures)) (c .spread .ensures .cells) (c .loop-k .inv .0),
+      ap (λ n. drop n (c .spread .last .buffer)) (sym split) ∙ sym (drop-drop (count - wanted) wanted (c .spread .last .buffer)) ∙ ap (drop (count - wanted)) (c .spread .ensures .kept) ∙ drop-drop (count - wanted) wanted (c .loop-k .buffer) ∙ ap (λ n. drop n (c .loop-k .buffer)) split ∙ c .loop-k .inv .1,
     )
 
 pub returns : need.returns

@@ -4,7 +4,7 @@ use native.Mathlib.Numerals.{add-one}
 use native.Mathlib.Omega.{arith}
 use Rattle.std.proofs.shelf.Lists.{getD-map}
 use Rattle.selector.specs.Layers.{leadingTo}
-use Rattle.selector.proofs.program.leading_of.Needs as need
+use Rattle.selector.proofs.evaluation.leading_of.Needs as need
 
 pub loop-j-again : need.loop-j-again
 loop-j-again g c =
