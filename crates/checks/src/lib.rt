@@ -1,0 +1,3 @@
+// Worked examples that run over all layers.
+#[cfg(test)]
+mod tests;
