@@ -1,3 +1,5 @@
-// Worked examples that run over all layers.
+// Worked examples of the layers, run over their public calls.
 #[cfg(test)]
-mod tests;
+mod ring_kinds;
+#[cfg(test)]
+mod selector_values;

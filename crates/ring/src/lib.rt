@@ -37,6 +37,3 @@ pub use word::WordRing;
 
 // The number of residues.
 pub use residue::MODULUS;
-
-#[cfg(test)]
-mod tests;

@@ -1,21 +1,21 @@
 // Examples of each kind, and of bytes that read as none.
-use crate::Coefficient;
-use crate::MODULUS;
-use crate::Pair;
-use crate::PairCoefficient;
-use crate::PairPartialEq;
-use crate::PairRing;
-use crate::Residue;
-use crate::ResidueCoefficient;
-use crate::ResiduePartialEq;
-use crate::ResidueRing;
-use crate::Ring;
-use crate::RingError;
-use crate::RingErrorDebug;
-use crate::RingErrorPartialEq;
-use crate::Word;
-use crate::WordCoefficient;
-use crate::WordRing;
+use ring::Coefficient;
+use ring::MODULUS;
+use ring::Pair;
+use ring::PairCoefficient;
+use ring::PairPartialEq;
+use ring::PairRing;
+use ring::Residue;
+use ring::ResidueCoefficient;
+use ring::ResiduePartialEq;
+use ring::ResidueRing;
+use ring::Ring;
+use ring::RingError;
+use ring::RingErrorDebug;
+use ring::RingErrorPartialEq;
+use ring::Word;
+use ring::WordCoefficient;
+use ring::WordRing;
 use std::test::*;
 
 fn residue(number: u64) -> Residue {
