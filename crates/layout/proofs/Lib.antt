@@ -1,0 +1,5 @@
+pub mod Encodings
+pub mod Plans
+pub mod Powers
+pub mod Shapes
+pub mod Verdicts

@@ -1,0 +1,6 @@
+use borrow.Author.Needs.{needs}
+use Rattle.layout.proofs.Shapes.{boundaries-are}
+use Rattle.layout.proofs.geometry.JaggedLayout.cumulative_heights.Needs as need
+
+pub returns : need.returns
+returns c = let e = boundaries-are (c .args .self .now) in search needs

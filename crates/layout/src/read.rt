@@ -1,0 +1,90 @@
+// What a layout tells of itself.
+ghost use mathlib.Core.List.{[], _∷_};
+ghost use mathlib.Core.Path.{_≡_};
+ghost use Prim.Native.Nat.{_^_};
+ghost use lib.Count.{trailingZeros};
+ghost use lib.Dec.{leb};
+ghost use Rattle.std.specs.Orderings.{Decides};
+ghost use Rattle.ring.specs.Checks.{verdict};
+ghost use Rattle.layout.specs.declared.error.JaggedLayoutError.the-variants.{NoSuchColumn};
+ghost use Rattle.layout.specs.Layout.{shape};
+ghost use Rattle.layout.specs.Plan.{when};
+ghost use Rattle.layout.specs.Shape.{Lawful, columns, height, area, capacity, boundaries};
+use crate::error::JaggedLayoutError;
+use crate::geometry::JaggedLayout;
+
+impl JaggedLayout {
+    pub fn row_variables(&self) -> usize
+        ensures { λ r. ⌜ r ≡ shape (now (self .entry)) .rows ⌝ }
+    {
+        self.row_variables
+    }
+
+    // The number of coordinates that name a column.
+    pub fn column_variables(&self) -> usize
+        ensures answer { λ r. ⌜ r ≡ trailingZeros 64 (columns (shape (now (self .entry)))) ⌝ }
+        ensures power { λ r. ⌜ 2 ^ r ≡ columns (shape (now (self .entry))) ⌝ }
+    {
+        self.columns.trailing_zeros() as usize
+    }
+
+    pub fn dense_variables(&self) -> usize
+        ensures { λ r. ⌜ r ≡ shape (now (self .entry)) .dense ⌝ }
+    {
+        self.dense_variables
+    }
+
+    pub fn num_columns(&self) -> usize
+        ensures { λ r. ⌜ r ≡ columns (shape (now (self .entry))) ⌝ }
+    {
+        self.columns
+    }
+
+    // The number of rows in all columns together.
+    pub fn area(&self) -> usize
+        ensures { λ r. ⌜ r ≡ area (shape (now (self .entry))) ⌝ }
+    {
+        self.boundaries[self.columns]
+    }
+
+    // The number of places that the dense variables name.
+    pub fn dense_capacity(&self) -> usize
+        ensures { λ r. ⌜ r ≡ capacity (shape (now (self .entry))) ⌝ }
+    {
+        1 << self.dense_variables
+    }
+
+    pub fn column_height(&self, column: usize) -> Result<usize, JaggedLayoutError>
+        ensures { λ r. ⌜ r ≡ verdict (when (leb (columns (shape (now (self .entry)))) column) (NoSuchColumn column (columns (shape (now (self .entry))))) ∷ []) (height (shape (now (self .entry))) column) ⌝ }
+    {
+        if column >= self.columns {
+            return Err(JaggedLayoutError::NoSuchColumn {
+                column,
+                columns: self.columns,
+            });
+        }
+        Ok(self.boundaries[column + 1] - self.boundaries[column])
+    }
+
+    // The boundaries, where they lie in the layout.
+    pub fn cumulative_heights(&self) -> &[usize]
+        ensures { λ r. ⌜ now r ≡ boundaries (shape (now (self .entry))) ⌝ }
+    {
+        &self.boundaries[0..self.columns + 1]
+    }
+}
+
+// Layouts are equal where their shapes are.
+pub impl PartialEq<JaggedLayout> for JaggedLayout as JaggedLayoutPartialEq {
+    ghost equals = { λ a b r. Decides r (shape a ≡ shape b) };
+
+    fn eq(&self, other: &JaggedLayout) -> bool
+        ensures { λ r. ⌜ Decides r (shape (now (self .entry)) ≡ shape (now (other .entry))) ⌝ }
+    {
+        self.row_variables == other.row_variables
+            && self.dense_variables == other.dense_variables
+            && self.cumulative_heights() == other.cumulative_heights()
+    }
+}
+
+pub impl Eq for JaggedLayout as JaggedLayoutEq {}
