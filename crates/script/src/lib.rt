@@ -1,23 +1,16 @@
 // Scripts of calls: a line is parsed, its call is made, and a record of what the call answered is written.
-mod answer;
-mod call;
-mod element;
-mod make;
-mod numbers;
-mod record;
-mod session;
-mod step;
-mod words;
+mod literal;
+mod split;
 
-pub use answer::Answer;
-pub use call::Call;
-pub use call::Kind;
-pub use call::RingCall;
-pub use call::Verb;
-pub use call::parse;
-pub use numbers::MAX_CELLS;
-pub use record::record;
-pub use session::Session;
-pub use step::step;
-pub use words::Mark;
-pub use words::pieces;
+pub use literal::bytes;
+pub use literal::list;
+pub use literal::name;
+pub use literal::number;
+pub use literal::says;
+pub use literal::size;
+pub use literal::truth;
+pub use literal::MAX_CELLS;
+pub use split::pieces;
+pub use split::reach;
+pub use split::words;
+pub use split::Mark;
