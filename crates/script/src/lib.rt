@@ -1,7 +1,10 @@
 // Scripts of calls: a line is parsed, its call is made, and a record of what the call answered is written.
+mod answer;
 mod literal;
 mod split;
+mod text;
 
+pub use answer::Answer;
 pub use literal::bytes;
 pub use literal::list;
 pub use literal::name;
@@ -14,3 +17,4 @@ pub use split::pieces;
 pub use split::reach;
 pub use split::words;
 pub use split::Mark;
+pub use text::record;
