@@ -11,13 +11,13 @@ use lib.Seq.{paste}
 use Rattle.std.specs.Iters.{counting}
 use Rattle.std.specs.shelf.Lists.{All, joined, sum}
 use Rattle.std.proofs.shelf.Bits.{pow-below}
-use Rattle.std.proofs.shelf.Counted.{length-map-counting, getD-map-counting}
-use Rattle.std.proofs.shelf.Lists.{append-assoc, take-all, take-at, drop-at, drop-drop, length-append, length-take-le, joined-more, take-more, ext-getD}
+use Rattle.std.proofs.shelf.Counted.{length-map-counting}
+use Rattle.std.proofs.shelf.Lists.{append-assoc, take-all, take-at, drop-at, drop-drop, length-append, length-take-le, joined-more, take-more}
 use Rattle.std.proofs.shelf.Sums.{sumBy-take-le}
 use Rattle.ring.specs.Bytes.{bigEndian, eight, over}
 use Rattle.layout.specs.Encoding.{layoutBytes, layoutLength, BytesTell}
-use Rattle.layout.specs.Shape.{Shape, Lawful, columns, height, start, area, boundaries}
-use Rattle.layout.proofs.Shapes.{same-shape, start-more}
+use Rattle.layout.specs.Shape.{Shape, Lawful, columns, start, boundaries}
+use Rattle.layout.proofs.Shapes.{same-shape, heights-tell}
 
 -- a write right after another
 pub paste-more : (d xs ys : List ℕ) (at n k : ℕ) → length xs ≡ n → length ys ≡ k → at + n ≤ length d → paste (paste d at xs n) (at + n) ys k ≡ paste d at (xs ++ ys) (n + k)
@@ -27,9 +27,9 @@ paste-more d xs ys at n k long-xs long-ys fits =
     let long : length front ≡ at + n = length-append (take at d) (take n xs) ∙ omega (arith, length-take-le at d (omega arith), ap length whole) in
     let before = take-at front (drop (at + n) d) (at + n) long in
     let after : drop (at + n + k) (front ++ drop (at + n) d) ≡ drop (at + n + k) d =
-      sym (drop-drop k (at + n) (front ++ drop (at + n) d)) ∙ ap (drop k) (drop-at front (drop (at + n) d) (at + n) long) ∙ drop-drop k (at + n) d in
+    sym (drop-drop k (at + n) (front ++ drop (at + n) d)) ∙ ap (drop k) (drop-at front (drop (at + n) d) (at + n) long) ∙ drop-drop k (at + n) d in
     let both : take (n + k) (xs ++ ys) ≡ take n xs ++ take k ys =
-      take-all (n + k) (xs ++ ys) (omega (arith, length-append xs ys)) ∙ ap (λ l. l ++ ys) (sym whole) ∙ ap (λ l. take n xs ++ l) (sym (take-all k ys (omega arith))) in
+    take-all (n + k) (xs ++ ys) (omega (arith, length-append xs ys)) ∙ ap (λ l. l ++ ys) (sym whole) ∙ ap (λ l. take n xs ++ l) (sym (take-all k ys (omega arith))) in
     let sums : at + n + k ≡ at + (n + k) = omega arith in
     ap (λ l. (l ++ take k ys) ++ drop (at + n + k) (front ++ drop (at + n) d)) before
     ∙ ap (λ l. (front ++ take k ys) ++ l) (after ∙ ap (λ m. drop m d) sums)
@@ -80,33 +80,27 @@ all-map P f [] h = tt
 all-map P f (x ∷ xs) h = (h x, all-map P f xs h)
 
 numbers-fit : (S : Shape) → Lawful S → All (λ x. x < 2 ^ 64) (S .rows ∷ S .dense ∷ (columns S + 1) ∷ boundaries S)
-numbers-fit S lawful =
-    (omega (arith, lawful .rows-fit),
-    (omega (arith, lawful .dense-fit),
-    (omega (arith, lawful .few),
-    all-map (λ x. x < 2 ^ 64) (start S) (counting 0 (columns S + 1))
-    (λ y. omega (arith, sumBy-take-le (λ x. x) (S .heights) y, lawful .covered, pow-below (S .dense) 64 (omega (arith, lawful .dense-fit)))))))
-
-boundary-is : (S : Shape) (y : ℕ) → y ≤ columns S → getD (boundaries S) y 0 ≡ start S y
-boundary-is S y h = getD-map-counting (start S) 0 (columns S + 1) y y 0 (omega arith) (omega arith)
-
--- the heights follow from the boundaries
-heights-tell : (S T : Shape) → columns S ≡ columns T → boundaries S ≡ boundaries T → S .heights ≡ T .heights
-heights-tell S T count same =
-    ext-getD 0 (S .heights) (T .heights) count
-    (λ y h.
-    let at : (z : ℕ) → z ≤ columns S → start S z ≡ start T z =
-      λ z l. sym (boundary-is S z l) ∙ ap (λ b. getD b z 0) same ∙ boundary-is T z (omega arith) in
-    omega (arith, start-more S y h, start-more T y (omega arith), at y (omega arith), at (y + 1) (omega arith)))
+numbers-fit S lawful = (
+  omega (arith, lawful .rows-fit),
+  (
+    omega (arith, lawful .dense-fit),
+    (
+      omega (arith, lawful .few),
+      all-map (λ x. x < 2 ^ 64) (start S) (counting 0 (columns S + 1))
+          (λ y. omega (arith, sumBy-take-le (λ x. x) (S .heights) y, lawful .covered, pow-below (S .dense) 64 (omega (arith, lawful .dense-fit)))),
+    ),
+  ),
+)
 
 pub bytes-tell-shapes : BytesTell
 unfolding layoutBytes
-bytes-tell-shapes S T p q =
-    ((λ h.
-    let same = numbers-tell (S .rows ∷ S .dense ∷ (columns S + 1) ∷ boundaries S) (T .rows ∷ T .dense ∷ (columns T + 1) ∷ boundaries T) (numbers-fit S p) (numbers-fit T q) h in
-    let count = ap (λ l. getD l 2 0) same in
-    same-shape S T (ap (λ l. getD l 0 0) same) (ap (λ l. getD l 1 0) same) (heights-tell S T (omega arith) (ap (drop 3) same))),
-    (λ e. ap layoutBytes e))
+bytes-tell-shapes S T p q = (
+  (λ h.
+      let same = numbers-tell (S .rows ∷ S .dense ∷ (columns S + 1) ∷ boundaries S) (T .rows ∷ T .dense ∷ (columns T + 1) ∷ boundaries T) (numbers-fit S p) (numbers-fit T q) h in
+      let count = ap (λ l. getD l 2 0) same in
+      same-shape S T (ap (λ l. getD l 0 0) same) (ap (λ l. getD l 1 0) same) (heights-tell S T (omega arith) (ap (drop 3) same))),
+  (λ e. ap layoutBytes e),
+)
 
 pub bytes-long : (S : Shape) → length (layoutBytes S) ≡ layoutLength S
 unfolding layoutBytes

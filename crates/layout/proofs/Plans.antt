@@ -21,7 +21,7 @@ use Rattle.layout.specs.declared.error.JaggedLayoutError.{JaggedLayoutError}
 use Rattle.layout.specs.declared.error.JaggedLayoutError.the-variants.{HeightExceedsRowBound, AreaOverflow}
 use Rattle.layout.specs.Plan.{checks, countChecks, columnChecks, heightChecks, denseChecks, denseFor, planned}
 use Rattle.layout.specs.Powers.{powerOfTwo, covering, Least}
-use Rattle.layout.specs.Shape.{Lawful}
+use Rattle.layout.specs.Shape.{Lawful, maxColumns}
 use Rattle.layout.proofs.Powers.{powers-of-two, covering-least, least-same, one-digit, ones-power}
 use Rattle.layout.proofs.Verdicts.{verdict-passed, verdict-all, verdict-refused, passed-from-ok, passed-left, passed-right, passed-at, passed-more, fails-at}
 
@@ -96,18 +96,18 @@ module _ (rows : ℕ) (heights : List ℕ) (minimum : ℕ) where
         let power = powers-of-two (length heights) .0 plan-power in
         record {
           power = power;
-          few = ltb-false 256 (length heights) (counts-passed .1 .1 .0);
+          few = ltb-false maxColumns (length heights) (counts-passed .1 .1 .0);
           rows-fit = leb-false 64 rows (counts-passed .1 .1 .1 .0);
           dense-fit = leb-false 64 (denseFor (sum heights) minimum) (dense-passed .1 .0);
           bounded = λ y.
-            ⊎-elim
-            (λ h. ltb-false (2 ^ rows) (getD heights y 0) (passed-at (columnChecks rows heights) (length heights) y h (passed-left (heightChecks rows heights) (denseChecks (sum heights) minimum) rest-passed) .0))
-            (λ h. omega (arith, getD-past heights y 0 h))
-            (cases-lt y (length heights));
+              ⊎-elim
+              (λ h. ltb-false (2 ^ rows) (getD heights y 0) (passed-at (columnChecks rows heights) (length heights) y h (passed-left (heightChecks rows heights) (denseChecks (sum heights) minimum) rest-passed) .0))
+              (λ h. omega (arith, getD-past heights y 0 h))
+              (cases-lt y (length heights));
           covered =
-            let dense = denseFor (sum heights) minimum in
-            let below : covering (max (sum heights) 1) ≤ dense = omega arith in
-            omega (arith, covering-least (max (sum heights) 1) .holds, pow-mono below);
+              let dense = denseFor (sum heights) minimum in
+              let below : covering (max (sum heights) 1) ≤ dense = omega arith in
+              omega (arith, covering-least (max (sum heights) 1) .holds, pow-mono below);
         }
 
   module _ (dense : ℕ) (accepted : verdict (checks rows heights minimum) (denseFor (sum heights) minimum) ≡ Ok dense) where

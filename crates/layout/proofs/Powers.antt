@@ -11,7 +11,7 @@ use lib.Pow.{pow-mono}
 use Rattle.std.specs.Orderings.{Decides}
 use Rattle.std.proofs.shelf.Bits.{pow-pos, pow-below}
 use Rattle.std.proofs.shelf.Tests.{cases-bool, cond-true, cond-false, leb-true, leb-false, eqb-true, eq-eqb, cases-order, cases-lt}
-use Rattle.layout.specs.Powers.{powerOfTwo, PowersOfTwo, firstFrom, covering, Least, Covering}
+use Rattle.layout.specs.Powers.{powerOfTwo, PowersOfTwo, firstFrom, covering, Least, LeastCovering}
 
 two : (n : ℕ) → (n % 2 ≡ 0) ⊎ (n % 2 ≡ 1)
 two n = ⊎-elim (λ h. inl (omega arith)) (λ h. inr (omega arith)) (cases-lt (n % 2) 1)
@@ -54,9 +54,10 @@ ones-power k =
     sym (ap ones e) ∙ ones-cat k 1 0 (pow-pos k)
 
 pub powers-of-two : PowersOfTwo
-powers-of-two n =
-    ((λ t. (trailingZeros n n, sym (one-digit n n (below-power n) (eqb-true (ones n) 1 t)))),
-    (λ w. eq-eqb (ones n) 1 (ap ones (w .1) ∙ ones-power (w .0))))
+powers-of-two n = (
+  (λ t. (trailingZeros n n, sym (one-digit n n (below-power n) (eqb-true (ones n) 1 t)))),
+  (λ w. eq-eqb (ones n) 1 (ap ones (w .1) ∙ ones-power (w .0))),
+)
 
 first-from : (more e n : ℕ) → ((k : ℕ) → k < e → n ≤ 2 ^ k → ⊥) → n ≤ 2 ^ (e + more) → Least (λ e. n ≤ 2 ^ e) (firstFrom more e n)
 first-from zero e n below h = record {
@@ -75,7 +76,7 @@ first-from (suc more) e n below h =
     (let s : e + suc more ≡ (e + 1) + more = omega arith in subst (λ x. n ≤ 2 ^ x) s h)))
     (cases-bool (leb n (2 ^ e)))
 
-pub covering-least : Covering
+pub covering-least : LeastCovering
 unfolding covering
 covering-least n =
     first-from n 0 n (λ k l. absurd (omega arith))

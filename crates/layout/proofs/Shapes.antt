@@ -1,22 +1,24 @@
 -- The shape of a layout, read off its boundaries. Assumes nothing.
 use mathlib.Core.Path.{_≡_, refl, sym, ap, subst, _∙_}
+use mathlib.Core.Bool.{Bool}
 use mathlib.Core.List.{List, map}
 use mathlib.Core.Logic.{⊎-elim}
 use Prim.Native.Nat.{ℕ, zero, suc, min, _+_, _-_, _^_, _≤_, _<_}
 use native.Mathlib.Numerals.{add-one}
 use native.Mathlib.Omega.{arith}
-use lib.Count.{ones}
+use lib.Count.{ones, trailingZeros}
 use lib.ListN.{length, getD, set, take, replicate}
 use Rattle.std.specs.Iters.{counting}
+use Rattle.std.specs.Orderings.{Decides}
 use Rattle.std.specs.shelf.Lists.{sum}
 use Rattle.std.proofs.shelf.Counted.{length-map-counting, getD-map-counting, fill-by-all}
-use Rattle.std.proofs.shelf.Lists.{take-all, getD-past, getD-set-same, getD-set-other, length-take-le, getD-take}
+use Rattle.std.proofs.shelf.Lists.{ext-getD, take-all, getD-past, getD-set-same, getD-set-other, length-take-le, getD-take}
 use Rattle.std.proofs.shelf.Sums.{sumBy-more}
-use Rattle.std.proofs.shelf.Tests.{cases-eq, cases-lt}
+use Rattle.std.proofs.shelf.Tests.{eqb-true, cases-eq, cases-lt}
 use Rattle.layout.specs.declared.geometry.JaggedLayout.{JaggedLayout}
 use Rattle.layout.specs.Layout.{shape, AllLawful}
 use Rattle.layout.specs.Shape.{Shape, Lawful, columns, height, start, area, boundaries}
-use Rattle.layout.proofs.Powers.{powers-of-two}
+use Rattle.layout.proofs.Powers.{one-digit, powers-of-two}
 
 -- the heights between boundaries
 abbrev pub between : List ℕ → ℕ → ℕ
@@ -31,10 +33,37 @@ start-more S y h = sumBy-more (λ x. x) (S .heights) y 0 h
 pub area-start : (S : Shape) → start S (columns S) ≡ area S
 area-start S = ap sum (take-all (columns S) (S .heights) (omega arith))
 
+pub boundary-is : (S : Shape) (y : ℕ) → y ≤ columns S → getD (boundaries S) y 0 ≡ start S y
+boundary-is S y h = getD-map-counting (start S) 0 (columns S + 1) y y 0 (omega arith) (omega arith)
+
+-- the heights follow from the boundaries
+pub heights-tell : (S T : Shape) → columns S ≡ columns T → boundaries S ≡ boundaries T → S .heights ≡ T .heights
+heights-tell S T count same =
+    ext-getD 0 (S .heights) (T .heights) count
+    (λ y h.
+    let at : (z : ℕ) → z ≤ columns S → start S z ≡ start T z =
+    λ z l. sym (boundary-is S z l) ∙ ap (λ b. getD b z 0) same ∙ boundary-is T z (omega arith) in
+    omega (arith, start-more S y h, start-more T y (omega arith), at y (omega arith), at (y + 1) (omega arith)))
+
+-- shapes with the same variables are equal where their boundaries are
+pub shapes-decided : (S T : Shape) (r : Bool) → S .rows ≡ T .rows → S .dense ≡ T .dense → Decides r (boundaries S ≡ boundaries T) → Decides r (S ≡ T)
+shapes-decided S T r rows dense told = (
+  (λ t.
+      let same = told .0 t in
+      let long : (U : Shape) → length (boundaries U) ≡ columns U + 1 = λ U. length-map-counting (start U) 0 (columns U + 1) in
+      same-shape S T rows dense (heights-tell S T (omega (arith, long S, long T, ap length same)) same)),
+  (λ e. told .1 (ap boundaries e)),
+)
+
 module _ (l : JaggedLayout) where
   pub columns-are : columns (shape l) ≡ l .columns
   unfolding shape
   columns-are = length-map-counting (between (l .boundaries)) 0 (l .columns)
+
+  pub columns-power : 2 ^ trailingZeros 64 (columns (shape l)) ≡ columns (shape l)
+  columns-power =
+      subst (λ n. 2 ^ trailingZeros 64 n ≡ n) (sym columns-are)
+      (one-digit 64 (l .columns) (omega (arith, l .few)) (eqb-true (ones (l .columns)) 1 (l .power)))
 
   pub height-is : (y : ℕ) → y < l .columns → height (shape l) y ≡ between (l .boundaries) y
   unfolding shape
@@ -68,10 +97,10 @@ all-lawful l =
       rows-fit = l .rows;
       dense-fit = l .dense;
       bounded = λ y.
-        ⊎-elim
-        (λ h. omega (arith, height-is l y h, l .bounded y h))
-        (λ h. omega (arith, getD-past (shape l .heights) y 0 (omega (arith, columns-are l))))
-        (cases-lt y (l .columns));
+          ⊎-elim
+          (λ h. omega (arith, height-is l y h, l .bounded y h))
+          (λ h. omega (arith, getD-past (shape l .heights) y 0 (omega (arith, columns-are l))))
+          (cases-lt y (l .columns));
       covered = omega (arith, area-is l, l .covered);
     }
 

@@ -8,13 +8,13 @@ use native.Mathlib.Nat.{add-zero}
 use native.Mathlib.Omega.{arith}
 use Rattle.std.specs.declared.result.Result.the-variants.{Ok, Err}
 use Rattle.std.specs.Iters.{counting}
-use Rattle.std.specs.Results.{Cases}
 use Rattle.std.specs.shelf.Lists.{joined}
 use Rattle.std.proofs.shelf.Counted.{map-counting-more}
 use Rattle.std.proofs.shelf.Lists.{append-nil, joined-more, map-id}
 use Rattle.std.proofs.shelf.Results.{cases-weaker}
 use Rattle.std.proofs.shelf.Tests.{cases-bool, cond-true, cond-false}
 use Rattle.ring.specs.Checks.{Check, verdict, Passed, First}
+use Rattle.layout.specs.Rules.{when, Told}
 
 module _ {F : Type 0} where
   -- checks that pass leave the answer to those after them
@@ -59,23 +59,23 @@ module _ {F : Type 0} where
       (cases-bool (x .fails))
 
   -- the answer says which check failed first, or that all passed
-  told-more : {T : Type 0} (b : Bool) (f : F) (cs : List (Check F)) (t : T) → Cases (verdict cs t) (λ _. Passed cs) (First cs) → Cases (verdict (record { fails = b; fault = f } ∷ cs) t) (λ _. Passed (record { fails = b; fault = f } ∷ cs)) (First (record { fails = b; fault = f } ∷ cs))
+  told-more : {T : Type 0} (b : Bool) (f : F) (cs : List (Check F)) (t : T) → Told cs (verdict cs t) → Told (when b f ∷ cs) (verdict (when b f ∷ cs) t)
   told-more true f cs t h = record { before = []; after = cs; split = refl; passed = tt }
   told-more false f cs t h =
       cases-weaker (verdict cs t) h (λ _ p. (refl, p))
       (λ e w. record {
-        before = record { fails = false; fault = f } ∷ w .before;
+        before = when false f ∷ w .before;
         after = w .after;
-        split = ap (λ l. record { fails = false; fault = f } ∷ l) (w .split);
+        split = ap (λ l. when false f ∷ l) (w .split);
         passed = (refl, w .passed);
       })
 
-  pub told : {T : Type 0} (cs : List (Check F)) (t : T) → Cases (verdict cs t) (λ _. Passed cs) (First cs)
+  pub told : {T : Type 0} (cs : List (Check F)) (t : T) → Told cs (verdict cs t)
   told [] t = tt
   told (c ∷ cs) t = told-more (c .fails) (c .fault) cs t (told cs t)
 
   pub first-from-err : {T : Type 0} (cs : List (Check F)) (t : T) (e : F) → verdict cs t ≡ Err e → First cs e
-  first-from-err cs t e h = subst (λ r. Cases r (λ _. Passed cs) (First cs)) h (told cs t)
+  first-from-err cs t e h = subst (Told cs) h (told cs t)
 
   passed-append : (xs ys : List (Check F)) → Passed xs → Passed ys → Passed (xs ++ ys)
   passed-append [] ys p q = q

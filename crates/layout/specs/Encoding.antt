@@ -10,7 +10,7 @@ use Rattle.layout.specs.Shape.{Shape, Lawful, columns, boundaries}
 unfoldable pub layoutBytes : Shape → List ℕ
 layoutBytes S = joined eight (S .rows ∷ S .dense ∷ (columns S + 1) ∷ boundaries S)
 
--- how many bytes that are
+-- how many bytes those are
 abbrev pub layoutLength : Shape → ℕ
 layoutLength S = 24 + 8 * (columns S + 1)
 

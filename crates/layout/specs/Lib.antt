@@ -3,4 +3,5 @@ pub mod Faults
 pub mod Layout
 pub mod Plan
 pub mod Powers
+pub mod Rules
 pub mod Shape

@@ -1,5 +1,5 @@
 -- What is checked of an asked layout, in order, and the shape that it is given. Assumes nothing.
-use mathlib.Core.Bool.{Bool, not}
+use mathlib.Core.Bool.{not}
 use mathlib.Core.List.{List, [], _∷_, _++_}
 use Prim.Native.Nat.{ℕ, max, _+_, _^_}
 use lib.Dec.{eqb, leb, ltb}
@@ -10,10 +10,8 @@ use Rattle.ring.specs.Checks.{Check}
 use Rattle.layout.specs.declared.error.JaggedLayoutError.{JaggedLayoutError}
 use Rattle.layout.specs.declared.error.JaggedLayoutError.the-variants.{NoColumns, ColumnCountNotPowerOfTwo, TooManyColumns, RowVariablesOverflow, HeightExceedsRowBound, AreaOverflow, DenseAreaOverflow, DenseVariablesOverflow}
 use Rattle.layout.specs.Powers.{powerOfTwo, covering}
+use Rattle.layout.specs.Rules.{when}
 use Rattle.layout.specs.Shape.{Shape, maxColumns}
-
-abbrev pub when : {F : Type 0} → Bool → F → Check F
-when fails fault = record { fails = fails; fault = fault }
 
 -- what is checked of the two counts
 abbrev pub countChecks : ℕ → ℕ → List (Check JaggedLayoutError)

@@ -28,6 +28,6 @@ pub record Least (P : ℕ → Type 0) (e : ℕ) : Type 0 where
   pub holds : P e
   pub none-below : (k : ℕ) → k < e → P k → ⊥
 
--- what `covering` finds
-abbrev pub Covering : Type 0
-Covering = (n : ℕ) → Least (λ e. n ≤ 2 ^ e) (covering n)
+-- what `covering` finds is the least
+abbrev pub LeastCovering : Type 0
+LeastCovering = (n : ℕ) → Least (λ e. n ≤ 2 ^ e) (covering n)

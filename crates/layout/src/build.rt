@@ -1,14 +1,14 @@
 // Makes layouts: checks what is asked for, and lays the columns one after the other.
-ghost use mathlib.Core.Bool.{true};
 ghost use mathlib.Core.Path.{_≡_};
 ghost use Prim.Native.Nat.{ℕ, _^_, _<_, _≤_};
 ghost use lib.ListN.{length, getD, take};
 ghost use Rattle.std.specs.Results.{Cases};
 ghost use Rattle.std.specs.shelf.Lists.{sum};
-ghost use Rattle.ring.specs.Checks.{verdict, Passed, First};
+ghost use Rattle.ring.specs.Checks.{verdict};
 ghost use Rattle.layout.specs.Layout.{shape, AllLawful};
 ghost use Rattle.layout.specs.Plan.{checks, countChecks, heightChecks, denseChecks, denseFor, planned};
-ghost use Rattle.layout.specs.Powers.{PowersOfTwo, Covering};
+ghost use Rattle.layout.specs.Powers.{PowersOfTwo, LeastCovering};
+ghost use Rattle.layout.specs.Rules.{Told};
 ghost use Rattle.layout.specs.Shape.{emptyShape, maxColumns};
 use crate::error::JaggedLayoutError;
 use crate::geometry::JaggedLayout;
@@ -32,7 +32,7 @@ impl JaggedLayout {
     pub fn new(&mut self, row_variables: usize, heights: &[usize]) -> Result<(), JaggedLayoutError>
         ensures answer { λ r. ⌜ r ≡ verdict (checks «row_variables» (now (heights .entry)) 0) tt ⌝ }
         ensures after { λ r. ⌜ Cases r (λ _. shape (now (self .exit)) ≡ planned «row_variables» (now (heights .entry)) 0) (λ _. now (self .exit) ≡ now (self .entry)) ⌝ }
-        ensures first { λ r. ⌜ Cases r (λ _. Passed (checks «row_variables» (now (heights .entry)) 0)) (First (checks «row_variables» (now (heights .entry)) 0)) ⌝ }
+        ensures first { λ r. ⌜ Told (checks «row_variables» (now (heights .entry)) 0) r ⌝ }
     {
         self.with_min_dense_variables(row_variables, heights, 0)
     }
@@ -46,9 +46,9 @@ impl JaggedLayout {
     ) -> Result<(), JaggedLayoutError>
         ensures answer { λ r. ⌜ r ≡ verdict (checks «row_variables» (now (heights .entry)) «min_dense_variables») tt ⌝ }
         ensures after { λ r. ⌜ Cases r (λ _. shape (now (self .exit)) ≡ planned «row_variables» (now (heights .entry)) «min_dense_variables») (λ _. now (self .exit) ≡ now (self .entry)) ⌝ }
-        ensures first { λ r. ⌜ Cases r (λ _. Passed (checks «row_variables» (now (heights .entry)) «min_dense_variables»)) (First (checks «row_variables» (now (heights .entry)) «min_dense_variables»)) ⌝ }
+        ensures first { λ r. ⌜ Told (checks «row_variables» (now (heights .entry)) «min_dense_variables») r ⌝ }
         ensures powers { λ _. ⌜ PowersOfTwo ⌝ }
-        ensures least { λ _. ⌜ Covering ⌝ }
+        ensures least { λ _. ⌜ LeastCovering ⌝ }
         ensures lawful { λ _. ⌜ AllLawful ⌝ }
     {
         let dense_variables = checked_dense_variables(row_variables, heights, min_dense_variables)?;

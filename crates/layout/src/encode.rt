@@ -12,7 +12,7 @@ ghost use Rattle.ring.specs.Checks.{verdict};
 ghost use Rattle.layout.specs.declared.error.JaggedLayoutError.the-variants.{BufferTooShort};
 ghost use Rattle.layout.specs.Encoding.{layoutBytes, layoutLength, BytesTell};
 ghost use Rattle.layout.specs.Layout.{shape};
-ghost use Rattle.layout.specs.Plan.{when};
+ghost use Rattle.layout.specs.Rules.{when};
 use crate::error::JaggedLayoutError;
 use crate::geometry::JaggedLayout;
 

@@ -1,14 +1,15 @@
 // What a layout tells of itself.
 ghost use mathlib.Core.List.{[], _∷_};
 ghost use mathlib.Core.Path.{_≡_};
-ghost use Prim.Native.Nat.{_^_};
+ghost use Prim.Native.Nat.{_+_, _^_};
+ghost use denote.Ref.{ptr};
 ghost use lib.Count.{trailingZeros};
 ghost use lib.Dec.{leb};
 ghost use Rattle.std.specs.Orderings.{Decides};
 ghost use Rattle.ring.specs.Checks.{verdict};
 ghost use Rattle.layout.specs.declared.error.JaggedLayoutError.the-variants.{NoSuchColumn};
 ghost use Rattle.layout.specs.Layout.{shape};
-ghost use Rattle.layout.specs.Plan.{when};
+ghost use Rattle.layout.specs.Rules.{when};
 ghost use Rattle.layout.specs.Shape.{Lawful, columns, height, area, capacity, boundaries};
 use crate::error::JaggedLayoutError;
 use crate::geometry::JaggedLayout;
@@ -25,7 +26,7 @@ impl JaggedLayout {
         ensures answer { λ r. ⌜ r ≡ trailingZeros 64 (columns (shape (now (self .entry)))) ⌝ }
         ensures power { λ r. ⌜ 2 ^ r ≡ columns (shape (now (self .entry))) ⌝ }
     {
-        self.columns.trailing_zeros() as usize
+        self.num_columns().trailing_zeros() as usize
     }
 
     pub fn dense_variables(&self) -> usize
@@ -68,7 +69,8 @@ impl JaggedLayout {
 
     // The boundaries, where they lie in the layout.
     pub fn cumulative_heights(&self) -> &[usize]
-        ensures { λ r. ⌜ now r ≡ boundaries (shape (now (self .entry))) ⌝ }
+        ensures value { λ r. ⌜ now r ≡ boundaries (shape (now (self .entry))) ⌝ }
+        ensures place { λ r. ⌜ ptr r .0 ≡ ptr (self .entry) .0 ⌝ ∗ ⌜ ptr r .1 ≡ ptr (self .entry) .1 + 24 ⌝ }
     {
         &self.boundaries[0..self.columns + 1]
     }
@@ -81,9 +83,12 @@ pub impl PartialEq<JaggedLayout> for JaggedLayout as JaggedLayoutPartialEq {
     fn eq(&self, other: &JaggedLayout) -> bool
         ensures { λ r. ⌜ Decides r (shape (now (self .entry)) ≡ shape (now (other .entry))) ⌝ }
     {
-        self.row_variables == other.row_variables
-            && self.dense_variables == other.dense_variables
-            && self.cumulative_heights() == other.cumulative_heights()
+        if self.row_variables != other.row_variables
+            || self.dense_variables != other.dense_variables
+        {
+            return false;
+        }
+        self.cumulative_heights() == other.cumulative_heights()
     }
 }
 

@@ -5,12 +5,13 @@ use lib.ListN.{getD, take}
 use Rattle.std.specs.shelf.Lists.{sum}
 use Rattle.std.proofs.shelf.Lists.{length-set, getD-set-other}
 use Rattle.std.proofs.shelf.Sums.{sumBy-more, sumBy-take-le}
+use Rattle.layout.specs.Shape.{maxColumns}
 use Rattle.layout.proofs.Shapes.{zeros, starts-more}
 use Rattle.layout.proofs.build.boundaries_of.Needs as need
 
 pub loop-column-holds : need.loop-column-holds
 loop-column-holds c =
-    (refl, refl, (λ y h. let e : y ≡ 0 = omega arith in zeros 257 y ∙ sym (ap (λ z. sum (take z (c .args .heights .now))) e)), (λ y h. zeros 257 y))
+    (refl, refl, (λ y h. let e : y ≡ 0 = omega arith in zeros (maxColumns + 1) y ∙ sym (ap (λ z. sum (take z (c .args .heights .now))) e)), (λ y h. zeros (maxColumns + 1) y))
 
 pub add-area : need.add-area
 add-area c =

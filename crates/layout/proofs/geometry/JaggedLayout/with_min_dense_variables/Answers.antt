@@ -49,17 +49,34 @@ ghost-self c =
     let passed = accepted-passed rows hs minimum _ ok in
     let dense = accepted-dense rows hs minimum _ ok in
     let lawful = plan-lawful rows hs minimum passed in
-    let starts = c .boundaries-of .ensures .starts in
-    (plan-power rows hs minimum passed,
-    (lawful .few,
-    (lawful .rows-fit,
-    (subst (λ d. d < 64) (sym dense) (lawful .dense-fit),
-    (search needs,
-    (starts 0 (omega arith),
-    ((λ y h. omega (arith, sumBy-more (λ x. x) hs y 0 h, starts y (omega arith), starts (y + 1) (omega arith))),
-    ((λ y h. omega (arith, sumBy-more (λ x. x) hs y 0 h, starts y (omega arith), starts (y + 1) (omega arith), lawful .bounded y)),
-    (subst (λ d. getD (c .boundaries-of .result) (length hs) 0 ≤ 2 ^ d) (sym dense) (omega (arith, lawful .covered, starts (length hs) (omega arith), ap sum (take-all (length hs) hs (omega arith)))),
-    (c .boundaries-of .ensures .blank, tt))))))))))
+    let starts = c .boundaries-of .ensures .starts in (
+      plan-power rows hs minimum passed,
+      (
+        lawful .few,
+        (
+          lawful .rows-fit,
+          (
+            subst (λ d. d < 64) (sym dense) (lawful .dense-fit),
+            (
+              search needs,
+              (
+                starts 0 (omega arith),
+                (
+                  (λ y h. omega (arith, sumBy-more (λ x. x) hs y 0 h, starts y (omega arith), starts (y + 1) (omega arith))),
+                  (
+                    (λ y h. omega (arith, sumBy-more (λ x. x) hs y 0 h, starts y (omega arith), starts (y + 1) (omega arith), lawful .bounded y)),
+                    (
+                      subst (λ d. getD (c .boundaries-of .result) (length hs) 0 ≤ 2 ^ d) (sym dense) (omega (arith, lawful .covered, starts (length hs) (omega arith), ap sum (take-all (length hs) hs (omega arith)))),
+                      (c .boundaries-of .ensures .blank, tt),
+                    ),
+                  ),
+                ),
+              ),
+            ),
+          ),
+        ),
+      ),
+    )
 
 pub returns : need.returns
 unfolding shape
