@@ -13,7 +13,7 @@ use Rattle.std.specs.shelf.Lists.{kept-by}
 use Rattle.std.proofs.shelf.Elements.{kept-by-more}
 use Rattle.std.proofs.shelf.Lists.{map-push, length-map, getD-map}
 use Rattle.script.specs.declared.split.Mark.{Mark}
-use Rattle.script.specs.Cuts.{isMark, ahead, onto, pieces}
+use Rattle.script.specs.Cuts.{isMark, ahead, onto, pieces, texts}
 
 module _ (mark : Mark) where
   at-test : (b : ℕ) (bs : List ℕ) (t : Bool) → isMark mark b ≡ t → ahead mark (b ∷ bs) ≡ cond (not t) (1 + ahead mark bs) 0
@@ -44,9 +44,6 @@ module _ (mark : Mark) where
       by false m ih =
           let less : ahead mark bs < length bs = omega (arith, at-test b bs false m) in
           rw (at-test b bs false m, one-add, add-one) (cut-test b bs false m ∙ ap (onto b) (ih less ∙ ap (λ n. take (ahead mark bs) bs ∷ pieces mark (drop n bs)) (add-one (ahead mark bs))))
-
-abbrev pub texts : List (RefT (List ℕ)) → List (List ℕ)
-texts ps = map (λ p. p .now) ps
 
 module _ (mark : Mark) (whole : List (List ℕ)) (rest : List ℕ) (ps : List (RefT (List ℕ))) (sofar : texts ps ++ pieces mark rest ≡ whole) (p : RefT (List ℕ)) (n : ℕ) (end : n ≡ ahead mark rest) where
   pub one-more : p .now ≡ take n rest → n < length rest → texts (ps ++ p ∷ []) ++ pieces mark (drop (n + 1) rest) ≡ whole

@@ -28,8 +28,8 @@ use Rattle.std.proofs.shelf.Numerals.{Numerals, numerals-by-value, tells-allDig
 use Rattle.std.proofs.shelf.Tests.{and-from, and-parts, cases-bool, ltb-true, lt-ltb, le-ltb, le-leb, lt-leb, eqb-false, ne-eqb, not-from-false, not-false, true≢false}
 use Rattle.std.proofs.shelf.Text.{utf8-from-ascii}
 use Rattle.script.specs.declared.split.Mark.the-variants.{Star, Comma}
-use Rattle.script.specs.Cuts.{ahead, pieces}
-use Rattle.script.proofs.Cutting.{texts, nothing}
+use Rattle.script.specs.Cuts.{ahead, pieces, texts}
+use Rattle.script.proofs.Cutting.{nothing}
 use Rattle.script.specs.Words.{maxCells, isNumber, numberOf, provided, times, itemOf, after, itemsOf, short, listOf, before, byteOf, hexOf, bytesOf, isNameByte, allNameBytes, isName}
 
 digits : Numerals (λ ds. allDigits ds ≡ true) (value 10)

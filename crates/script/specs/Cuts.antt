@@ -1,7 +1,8 @@
 -- A text cut at its marks: a script into lines, a line into words, a list into items. Assumes nothing.
 use mathlib.Core.Bool.{Bool, cond, not, _||_}
-use mathlib.Core.List.{List, [], _∷_}
+use mathlib.Core.List.{List, [], _∷_, map}
 use Prim.Native.Nat.{ℕ}
+use denote.Ref.{RefT}
 use lib.Dec.{eqb}
 use lib.ListN.{length}
 use Rattle.std.specs.shelf.Lists.{leading, kept-by}
@@ -28,6 +29,10 @@ onto b (p ∷ ps) = (b ∷ p) ∷ ps
 unfoldable pub pieces : Mark → List ℕ → List (List ℕ)
 pieces mark [] = [] ∷ []
 pieces mark (b ∷ bs) = cond (isMark mark b) ([] ∷ pieces mark bs) (onto b (pieces mark bs))
+
+-- what slices hold
+abbrev pub texts : List (RefT (List ℕ)) → List (List ℕ)
+texts slices = map (λ s. s .now) slices
 
 -- the words of a line: what stands between blanks, and is not empty
 abbrev pub words : List ℕ → List (List ℕ)

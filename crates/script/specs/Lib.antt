@@ -1,3 +1,5 @@
+pub mod Calls
 pub mod Cuts
 pub mod Records
+pub mod Slots
 pub mod Words

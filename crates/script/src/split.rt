@@ -1,11 +1,10 @@
 // A text cut at its marks: a script into lines, a line into words, a list into items.
-ghost use mathlib.Core.List.{map};
 ghost use mathlib.Core.Path.{_≡_};
 ghost use Prim.Native.Nat.{_≤_};
 ghost use lib.ListN.{length};
 ghost use Rattle.std.specs.Of.Vec.{vec-items};
 ghost use Rattle.std.specs.Vec.{made};
-ghost use Rattle.script.specs.Cuts.{isMark, ahead, pieces as cut, words as wordsIn};
+ghost use Rattle.script.specs.Cuts.{isMark, ahead, pieces as cut, texts, words as wordsIn};
 use std::alloc::AllocError;
 use std::alloc::Global;
 
@@ -48,7 +47,7 @@ pub fn reach(text: &[u8], mark: Mark) -> usize
 
 // The texts between the marks; they borrow the whole.
 pub fn pieces<'a>(heap: Global, text: &'a [u8], mark: Mark) -> Result<Vec<&'a [u8]>, AllocError>
-    ensures { λ r. ⌜ made r (λ v. map (λ p. p .now) (vec-items v) ≡ cut mark (now (text .entry))) ⌝ }
+    ensures { λ r. ⌜ made r (λ v. texts (vec-items v) ≡ cut mark (now (text .entry))) ⌝ }
 {
     let mut pieces = Vec::new(heap);
     let mut rest = text;
@@ -65,7 +64,7 @@ pub fn pieces<'a>(heap: Global, text: &'a [u8], mark: Mark) -> Result<Vec<&'a [u
 
 // The words of a line.
 pub fn words<'a>(heap: Global, line: &'a [u8]) -> Result<Vec<&'a [u8]>, AllocError>
-    ensures { λ r. ⌜ made r (λ v. map (λ p. p .now) (vec-items v) ≡ wordsIn (now (line .entry))) ⌝ }
+    ensures { λ r. ⌜ made r (λ v. texts (vec-items v) ≡ wordsIn (now (line .entry))) ⌝ }
 {
     let pieces = pieces(heap, line, Mark::Blank)?;
     let mut words = Vec::new(heap);

@@ -7,7 +7,7 @@ use Rattle.std.specs.Of.Vec.{vec-items}
 use Rattle.std.specs.Options.{mapped}
 use Rattle.std.specs.declared.option.Option.the-variants.{Some, None}
 use Rattle.script.specs.Words.{repeated, after, itemsOf}
-use Rattle.script.proofs.Cutting.{texts}
+use Rattle.script.specs.Cuts.{texts}
 use Rattle.script.proofs.Saying.{dash-list, items-more, no-item, too-many, whole-list}
 use Rattle.script.proofs.literal.list.Needs as need
 

@@ -4,7 +4,7 @@ use lib.ListN.{length, drop}
 use Rattle.std.specs.Of.Vec.{vec-items}
 use Rattle.std.specs.declared.option.Option.the-variants.{Some}
 use Rattle.script.specs.Words.{after, itemsOf, maxCells}
-use Rattle.script.proofs.Cutting.{texts}
+use Rattle.script.specs.Cuts.{texts}
 use Rattle.script.proofs.literal.list.Given as given
 
 abbrev pub Inv-loop-item : given.InvT-loop-item

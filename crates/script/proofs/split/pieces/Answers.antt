@@ -5,8 +5,8 @@ use native.Mathlib.Omega.{arith}
 use lib.ListN.{length, take, drop, length-drop}
 use Rattle.std.specs.Of.Vec.{vec-items}
 use Rattle.std.proofs.shelf.Lists.{take-rest, take-all}
-use Rattle.script.specs.Cuts.{ahead, pieces}
-use Rattle.script.proofs.Cutting.{texts, one-more, the-last}
+use Rattle.script.specs.Cuts.{ahead, pieces, texts}
+use Rattle.script.proofs.Cutting.{one-more, the-last}
 use Rattle.script.proofs.split.pieces.Needs as need
 
 pub loop-pieces-again : need.loop-pieces-again

@@ -3,8 +3,7 @@ use mathlib.Core.Path.{_≡_}
 use Prim.Native.Nat.{_≤_}
 use lib.ListN.{length}
 use Rattle.std.specs.Of.Vec.{vec-items}
-use Rattle.script.specs.Cuts.{pieces}
-use Rattle.script.proofs.Cutting.{texts}
+use Rattle.script.specs.Cuts.{pieces, texts}
 use Rattle.script.proofs.split.pieces.Given as given
 
 abbrev pub Inv-loop-pieces : given.InvT-loop-pieces

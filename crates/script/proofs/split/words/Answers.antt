@@ -8,7 +8,8 @@ use mathlib.Core.List.{List}
 use Rattle.std.specs.Of.Vec.{vec-items}
 use Rattle.std.specs.shelf.Lists.{kept-by}
 use Rattle.std.proofs.shelf.Lists.{map-push, take-all, length-map}
-use Rattle.script.proofs.Cutting.{texts, solid, kept-next, nothing}
+use Rattle.script.specs.Cuts.{texts}
+use Rattle.script.proofs.Cutting.{solid, kept-next, nothing}
 use Rattle.script.proofs.split.words.Needs as need
 use Rattle.script.proofs.split.words.Needs.{then-not-is-empty·in-Continue-push, else-not-is-empty}
 

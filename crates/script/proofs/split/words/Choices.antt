@@ -4,7 +4,7 @@ use lib.Dec.{eqb}
 use lib.ListN.{length, take}
 use Rattle.std.specs.Of.Vec.{vec-items}
 use Rattle.std.specs.shelf.Lists.{kept-by}
-use Rattle.script.proofs.Cutting.{texts}
+use Rattle.script.specs.Cuts.{texts}
 use Rattle.script.proofs.split.words.Given as given
 
 abbrev pub Inv-loop-piece : given.InvT-loop-piece

@@ -11,5 +11,5 @@ use Rattle.script.proofs.text.layout_text.Needs as need
 pub returns : need.returns
 returns c =
     subst (λ (text : List ℕ). made (c .format .result) (λ s. string-bytes s ≡ text))
-    (layout-told (shape (c .args .layout .now)) (c .in-Continue-variables .ensures tt) (c .in-Continue-sizes .ensures tt) (c .in-Continue-heights .ensures tt ∙ ap commas (c .cumulative-heights .ensures)))
+    (layout-told (shape (c .args .layout .now)) (c .in-Continue-variables .ensures tt) (c .in-Continue-sizes .ensures tt) (c .in-Continue-heights .ensures tt ∙ ap commas (c .cumulative-heights .ensures .value)))
     (c .format .ensures .made)
