@@ -15,34 +15,15 @@ pub enum Kind {
 #[derive(Drop)]
 pub enum RingCall {
     ByteLength,
-    Encode {
-        element: Vec<usize>,
-        room: usize,
-    },
-    Read {
-        bytes: Vec<u8>,
-    },
+    Encode { element: Vec<usize>, room: usize },
+    Read { bytes: Vec<u8> },
     Zero,
     One,
-    Plus {
-        a: Vec<usize>,
-        b: Vec<usize>,
-    },
-    Minus {
-        a: Vec<usize>,
-        b: Vec<usize>,
-    },
-    Times {
-        a: Vec<usize>,
-        b: Vec<usize>,
-    },
-    FromBool {
-        set: bool,
-    },
-    Equal {
-        a: Vec<usize>,
-        b: Vec<usize>,
-    },
+    Plus { a: Vec<usize>, b: Vec<usize> },
+    Minus { a: Vec<usize>, b: Vec<usize> },
+    Times { a: Vec<usize>, b: Vec<usize> },
+    FromBool { set: bool },
+    Equal { a: Vec<usize>, b: Vec<usize> },
 }
 
 // A call, with everything that it is passed.

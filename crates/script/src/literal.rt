@@ -8,9 +8,9 @@ ghost use Rattle.std.specs.Options.{mapped};
 ghost use Rattle.std.specs.Vec.{made};
 ghost use Rattle.std.specs.shelf.Text.{sameBytes};
 ghost use Rattle.script.specs.Words.{numberOf, sizeOf, itemOf, repeated, listOf, digitOf, byteOf, bytesOf, isNameByte, isName, nameOf, truthOf};
+use crate::split::Mark;
 use crate::split::pieces;
 use crate::split::reach;
-use crate::split::Mark;
 use std::alloc::AllocError;
 use std::alloc::Global;
 

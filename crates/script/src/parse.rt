@@ -258,7 +258,11 @@ fn bool_call(arguments: &[&[u8]]) -> Option<RingCall>
 }
 
 // A call on two elements.
-fn operation_call(heap: Global, name: &[u8], arguments: &[&[u8]]) -> Result<Option<RingCall>, AllocError>
+fn operation_call(
+    heap: Global,
+    name: &[u8],
+    arguments: &[&[u8]],
+) -> Result<Option<RingCall>, AllocError>
     ensures { λ r. ⌜ made r (λ o. mapped ringSaid o ≡ operationSays (now (name .entry)) (texts (now (arguments .entry)))) ⌝ }
 {
     let Some((a, b)) = operands(heap, arguments)? else {
@@ -280,7 +284,10 @@ fn operation_call(heap: Global, name: &[u8], arguments: &[&[u8]]) -> Result<Opti
 }
 
 // The numbers of two elements.
-fn operands(heap: Global, arguments: &[&[u8]]) -> Result<Option<(Vec<usize>, Vec<usize>)>, AllocError>
+fn operands(
+    heap: Global,
+    arguments: &[&[u8]],
+) -> Result<Option<(Vec<usize>, Vec<usize>)>, AllocError>
     ensures { λ r. ⌜ made r (λ o. mapped pairSaid o ≡ operandsSay (texts (now (arguments .entry)))) ⌝ }
 {
     if arguments.len() != 2 {

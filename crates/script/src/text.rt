@@ -57,7 +57,10 @@ fn variables_text(heap: Global, layout: &JaggedLayout) -> Result<String, AllocEr
     let rows = layout.row_variables();
     let columns = layout.column_variables();
     let dense = layout.dense_variables();
-    format!(heap, "row_variables={rows} column_variables={columns} dense_variables={dense}")
+    format!(
+        heap,
+        "row_variables={rows} column_variables={columns} dense_variables={dense}"
+    )
 }
 
 fn sizes_text(heap: Global, layout: &JaggedLayout) -> Result<String, AllocError>
@@ -66,7 +69,10 @@ fn sizes_text(heap: Global, layout: &JaggedLayout) -> Result<String, AllocError>
     let columns = layout.num_columns();
     let area = layout.area();
     let capacity = layout.dense_capacity();
-    format!(heap, "num_columns={columns} area={area} dense_capacity={capacity}")
+    format!(
+        heap,
+        "num_columns={columns} area={area} dense_capacity={capacity}"
+    )
 }
 
 fn written_text(heap: Global, written: usize, buffer: &[u8]) -> Result<String, AllocError>
@@ -82,7 +88,10 @@ fn ring_fault_text(heap: Global, fault: &RingError) -> Result<String, AllocError
 {
     let number = fault.number();
     let (required, available) = shortage(fault);
-    format!(heap, "fault {number} BufferTooShort required={required} available={available}")
+    format!(
+        heap,
+        "fault {number} BufferTooShort required={required} available={available}"
+    )
 }
 
 // How many bytes are required, and how many there are.
@@ -124,16 +133,25 @@ fn layout_fault_fields(heap: Global, fault: &JaggedLayoutError) -> Result<String
             column,
             height,
             maximum,
-        } => format!(heap, "HeightExceedsRowBound column={column} height={height} maximum={maximum}"),
+        } => format!(
+            heap,
+            "HeightExceedsRowBound column={column} height={height} maximum={maximum}"
+        ),
         JaggedLayoutError::AreaOverflow { column } => format!(heap, "AreaOverflow column={column}"),
-        JaggedLayoutError::DenseAreaOverflow { area } => format!(heap, "DenseAreaOverflow area={area}"),
+        JaggedLayoutError::DenseAreaOverflow { area } => format!(
+            heap,
+            "DenseAreaOverflow area={area}"
+        ),
         JaggedLayoutError::DenseVariablesOverflow { variables } => {
             format!(heap, "DenseVariablesOverflow variables={variables}")
         }
         JaggedLayoutError::BufferTooShort {
             required,
             available,
-        } => format!(heap, "BufferTooShort required={required} available={available}"),
+        } => format!(
+            heap,
+            "BufferTooShort required={required} available={available}"
+        ),
         JaggedLayoutError::NoSuchColumn { column, columns } => {
             format!(heap, "NoSuchColumn column={column} columns={columns}")
         }

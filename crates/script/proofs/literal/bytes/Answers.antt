@@ -24,8 +24,8 @@ returns-then-is-empty c = empty-bytes (c .args .word .now) (sym (c .if-says .ens
 pub returns-then-word-ne0 : need.returns-then-word-ne0
 returns-then-word-ne0 c = sized-bytes (c .args .word .now) (sym (c .if-says .ensures tt)) (sym (c .if-is-empty .ensures tt))
     (elim (c .then-word-ne0 .came) [
-      then-word-ne0·by·then-word-ne0 w ↦ inl (w .if-word-ne0 .taken)
-    | then-word-ne0·by·else-word-ne0·then-word-gt-MAX-CELLS w ↦ inr (w .if-word-gt-MAX-CELLS .taken)
+      | then-word-ne0·by·then-word-ne0 w ↦ inl (w .if-word-ne0 .taken)
+      | then-word-ne0·by·else-word-ne0·then-word-gt-MAX-CELLS w ↦ inr (w .if-word-gt-MAX-CELLS .taken)
     ])
 
 pub returns-in-None : need.returns-in-None
@@ -33,10 +33,9 @@ returns-in-None c = no-byte (c .args .word .now) (sym (c .if-says .ensures tt)) 
 
 pub loop-place-again : need.loop-place-again
 loop-place-again c =
-    let pushed = c .in-Continue-push .ensures tt .items in
-    (
+    let pushed = c .in-Continue-push .ensures tt .items in (
       ap (λ l. after (Some l) (hexOf (drop (2 * (c .loop-place .place + 1)) (c .args .word .now)))) pushed
-      ∙ bytes-more (c .args .word .now) (sym (c .if-says .ensures tt)) (sym (c .if-is-empty .ensures tt)) (c .loop-place .place) _ (c .loop-place .inv .0) (c .in-Some .byte) (omega arith) (c .in-Some .ensures tt),
+          ∙ bytes-more (c .args .word .now) (sym (c .if-says .ensures tt)) (sym (c .if-is-empty .ensures tt)) (c .loop-place .place) _ (c .loop-place .inv .0) (c .in-Some .byte) (omega arith) (c .in-Some .ensures tt),
       omega (arith, ap length pushed ∙ length-append (vec-items (c .loop-place .bytes)) (c .in-Some .byte ∷ []), c .loop-place .inv .1),
     )
 

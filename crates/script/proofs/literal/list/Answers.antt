@@ -36,14 +36,13 @@ returns-then-times-saturating-sub c =
 pub loop-item-again : need.loop-item-again
 loop-item-again c =
     let rep = length-replicate (c .in-Some .times) (c .in-Some .value) in
-    let now = c .in-Continue-repeat .ensures tt in
-    (
+    let now = c .in-Continue-repeat .ensures tt in (
       ap (λ l. after (Some l) (itemsOf (drop (c .loop-item .item-index + 1) (texts (c .deref-item-items .result .now))))) now
-      ∙ items-more (c .args .word .now) (c .deref-item-items .result .now)
-        (ap texts (c .deref-item-items .ensures .value) ∙ c .in-Continue-items .ensures tt)
-        (c .loop-item .item-index) (c .loop-item-test .taken) (vec-items (c .loop-item .list)) (c .loop-item .inv .0)
-        (replicate (c .in-Some .times) (c .in-Some .value))
-        (c .in-Some .ensures tt),
+          ∙ items-more (c .args .word .now) (c .deref-item-items .result .now)
+          (ap texts (c .deref-item-items .ensures .value) ∙ c .in-Continue-items .ensures tt)
+          (c .loop-item .item-index) (c .loop-item-test .taken) (vec-items (c .loop-item .list)) (c .loop-item .inv .0)
+          (replicate (c .in-Some .times) (c .in-Some .value))
+          (c .in-Some .ensures tt),
       omega (arith, rep, ap length now ∙ length-append (vec-items (c .loop-item .list)) (replicate (c .in-Some .times) (c .in-Some .value)), c .len .ensures, c .saturating-sub .ensures, c .loop-item .list .ok .0, c .if-times-saturating-sub .left, c .loop-item .inv .1),
     )
 

@@ -15,8 +15,7 @@ loop-pieces-again c =
     let end = c .reach-end .result in
     let less : end < length rest = omega (arith, c .reach-end .ensures .within, c .if-end-rest .left) in
     let pushed = c .in-Continue-push .ensures tt .items in
-    let all : end - 0 ≡ end = omega arith in
-    (
+    let all : end - 0 ≡ end = omega arith in (
       rw (pushed, take-rest) (one-more (c .args .mark) _ rest _ (c .loop-pieces .inv .0) _ end (c .reach-end .ensures .answer) (ap (λ n. take n rest) all) less),
       rw take-rest (omega (arith, length-drop (end + 1) rest, c .loop-pieces .inv .1)),
     )

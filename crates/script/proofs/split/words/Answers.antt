@@ -16,15 +16,15 @@ use Rattle.script.proofs.split.words.Needs.{then-not-is-empty·in-Continue-pus
 pub loop-piece-again : need.loop-piece-again
 loop-piece-again c =
     elim (c .if-not-is-empty .came) [
-      then-not-is-empty·in-Continue-push w ↦
-        ap (λ v. texts (vec-items v)) (w .words-is)
-        ∙ ap texts (w .in-Continue-push .ensures tt .items)
-        ∙ map-push (λ (q : RefT (List ℕ)). q .now) (vec-items (c .loop-piece .words)) _
-        ∙ kept-next _ _ nothing _ false (c .loop-piece-test .taken) (c .loop-piece .inv) (sym (w .if-not-is-empty .taken) ∙ c .is-empty .ensures)
-    | else-not-is-empty w ↦
-        ap (λ v. texts (vec-items v)) (w .words-is)
-        ∙ sym (append-nil _)
-        ∙ kept-next _ _ nothing _ true (c .loop-piece-test .taken) (c .loop-piece .inv) (sym (w .if-not-is-empty .left) ∙ c .is-empty .ensures)
+      | then-not-is-empty·in-Continue-push w ↦
+          ap (λ v. texts (vec-items v)) (w .words-is)
+          ∙ ap texts (w .in-Continue-push .ensures tt .items)
+          ∙ map-push (λ (q : RefT (List ℕ)). q .now) (vec-items (c .loop-piece .words)) _
+          ∙ kept-next _ _ nothing _ false (c .loop-piece-test .taken) (c .loop-piece .inv) (sym (w .if-not-is-empty .taken) ∙ c .is-empty .ensures)
+      | else-not-is-empty w ↦
+          ap (λ v. texts (vec-items v)) (w .words-is)
+          ∙ sym (append-nil _)
+          ∙ kept-next _ _ nothing _ true (c .loop-piece-test .taken) (c .loop-piece .inv) (sym (w .if-not-is-empty .left) ∙ c .is-empty .ensures)
     ]
 
 pub returns : need.returns

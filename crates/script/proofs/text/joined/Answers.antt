@@ -11,14 +11,14 @@ pub loop-place-again : need.loop-place-again
 loop-place-again c =
     let digits = c .as-str .ensures .value ∙ c .in-Continue-digits .ensures tt .made in
     elim (c .if-place-gt0 .came) [
-      then-place-gt0·in-Continue-push w ↦
-        commas-next (c .args .numbers .now) (c .loop-place .place) (c .loop-place-test .taken) _ _ _ _ (c .loop-place .inv) digits (c .in-Continue-push-str .ensures tt .bytes)
-        (w .if-place-gt0 .taken)
-        (ap string-bytes (w .text-is) ∙ w .in-Continue-push .ensures tt .bytes ∙ ap (λ l. string-bytes (c .loop-place .text) ++ l) (encode-ascii 44 (omega arith)))
-    | else-place-gt0 w ↦
-        commas-first (c .args .numbers .now) (c .loop-place .place) (c .loop-place-test .taken) _ _ _ _ (c .loop-place .inv) digits (c .in-Continue-push-str .ensures tt .bytes)
-        (w .if-place-gt0 .left)
-        (ap string-bytes (w .text-is))
+      | then-place-gt0·in-Continue-push w ↦
+          commas-next (c .args .numbers .now) (c .loop-place .place) (c .loop-place-test .taken) _ _ _ _ (c .loop-place .inv) digits (c .in-Continue-push-str .ensures tt .bytes)
+          (w .if-place-gt0 .taken)
+          (ap string-bytes (w .text-is) ∙ w .in-Continue-push .ensures tt .bytes ∙ ap (λ l. string-bytes (c .loop-place .text) ++ l) (encode-ascii 44 (omega arith)))
+      | else-place-gt0 w ↦
+          commas-first (c .args .numbers .now) (c .loop-place .place) (c .loop-place-test .taken) _ _ _ _ (c .loop-place .inv) digits (c .in-Continue-push-str .ensures tt .bytes)
+          (w .if-place-gt0 .left)
+          (ap string-bytes (w .text-is))
     ]
 
 pub returns : need.returns
