@@ -10,7 +10,7 @@ use Rattle.std.specs.shelf.Lists.{sum}
 abbrev pub maxColumns : ℕ
 maxColumns = 256
 
--- a column has at most 2 ^ rows rows; the columns lie one after the other on 2 ^ dense places
+-- a column has at most 2 ^ rows rows; the columns lie one after the other in a dense vector of 2 ^ dense cells
 pub record Shape : Type 0 where
   pub rows : ℕ
   pub dense : ℕ

@@ -135,7 +135,7 @@ fn area_of(row_variables: usize, heights: &[usize]) -> Result<usize, JaggedLayou
 fn dense_for(area: usize, minimum: usize) -> Result<usize, JaggedLayoutError>
     ensures { λ r. ⌜ r ≡ verdict (denseChecks area minimum) (denseFor area minimum) ⌝ }
 {
-    // An empty table still has one place.
+    // The dense vector of an empty table still has one cell.
     let capacity = match area.max(1).checked_next_power_of_two() {
         Some(capacity) => capacity,
         None => return Err(JaggedLayoutError::DenseAreaOverflow { area }),

@@ -12,7 +12,7 @@ pub const MAX_COLUMNS: usize = 256;
 // One boundary before each column, and one after the last.
 pub const MAX_BOUNDARIES: usize = MAX_COLUMNS + 1;
 
-// Column y takes the dense places from boundary y up to boundary y + 1; cells past the last boundary are 0.
+// Column y takes the dense indexes from boundary y up to boundary y + 1; cells past the last boundary are 0.
 #[derive(Clone, Copy, Debug)]
 pub struct JaggedLayout {
     pub(crate) row_variables: usize,

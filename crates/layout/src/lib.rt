@@ -1,4 +1,4 @@
-// Layouts of jagged tables: columns of unequal heights, one after the other on a line of dense places.
+// Layouts of jagged tables: columns of unequal heights, one after the other in a dense vector.
 mod build;
 mod encode;
 mod error;

@@ -48,7 +48,7 @@ impl JaggedLayout {
         self.boundaries[self.columns]
     }
 
-    // The number of places that the dense variables name.
+    // The number of cells of the dense vector.
     pub fn dense_capacity(&self) -> usize
         ensures { λ r. ⌜ r ≡ capacity (shape (now (self .entry))) ⌝ }
     {
