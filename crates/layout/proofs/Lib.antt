@@ -2,4 +2,3 @@ pub mod Encodings
 pub mod Plans
 pub mod Powers
 pub mod Shapes
-pub mod Verdicts

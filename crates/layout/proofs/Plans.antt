@@ -23,7 +23,7 @@ use Rattle.layout.specs.Plan.{checks, countChecks, columnChecks, heightChecks,
 use Rattle.layout.specs.Powers.{powerOfTwo, covering, Least}
 use Rattle.layout.specs.Shape.{Lawful, maxColumns}
 use Rattle.layout.proofs.Powers.{powers-of-two, covering-least, least-same, one-digit, ones-power}
-use Rattle.layout.proofs.Verdicts.{verdict-passed, verdict-all, verdict-refused, passed-from-ok, passed-left, passed-right, passed-at, passed-more, fails-at}
+use Rattle.ring.proofs.Verdicts.{verdict-passed, verdict-all, verdict-refused, passed-from-ok, passed-left, passed-right, passed-at, passed-more, fails-at}
 
 -- the exponent of the least power of two that covers n
 pub exponent-is : (n p k : ℕ) → 0 < n → p < 2 ^ 64 → p ≡ 2 ^ k → n ≤ p → p / 2 < n → trailingZeros 64 p ≡ covering n

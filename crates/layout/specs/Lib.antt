@@ -3,5 +3,4 @@ pub mod Faults
 pub mod Layout
 pub mod Plan
 pub mod Powers
-pub mod Rules
 pub mod Shape

@@ -6,11 +6,10 @@ use lib.Dec.{eqb, leb, ltb}
 use lib.ListN.{length, getD, take}
 use Rattle.std.specs.Iters.{counting}
 use Rattle.std.specs.shelf.Lists.{joined, sum}
-use Rattle.ring.specs.Checks.{Check}
+use Rattle.ring.specs.Checks.{Check, when}
 use Rattle.layout.specs.declared.error.JaggedLayoutError.{JaggedLayoutError}
 use Rattle.layout.specs.declared.error.JaggedLayoutError.the-variants.{NoColumns, ColumnCountNotPowerOfTwo, TooManyColumns, RowVariablesOverflow, HeightExceedsRowBound, AreaOverflow, DenseAreaOverflow, DenseVariablesOverflow}
 use Rattle.layout.specs.Powers.{powerOfTwo, covering}
-use Rattle.layout.specs.Rules.{when}
 use Rattle.layout.specs.Shape.{Shape, maxColumns}
 
 -- what is checked of the two counts

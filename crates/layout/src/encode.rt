@@ -8,11 +8,10 @@ ghost use lib.Seq.{paste};
 ghost use Rattle.std.specs.Results.{Cases};
 ghost use Rattle.std.specs.shelf.Lists.{joined};
 ghost use Rattle.ring.specs.Bytes.{eight, over};
-ghost use Rattle.ring.specs.Checks.{verdict};
+ghost use Rattle.ring.specs.Checks.{verdict, when};
 ghost use Rattle.layout.specs.declared.error.JaggedLayoutError.the-variants.{BufferTooShort};
 ghost use Rattle.layout.specs.Encoding.{layoutBytes, layoutLength, BytesTell};
 ghost use Rattle.layout.specs.Layout.{shape};
-ghost use Rattle.layout.specs.Rules.{when};
 use crate::error::JaggedLayoutError;
 use crate::geometry::JaggedLayout;
 

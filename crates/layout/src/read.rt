@@ -6,10 +6,9 @@ ghost use denote.Ref.{ptr};
 ghost use lib.Count.{trailingZeros};
 ghost use lib.Dec.{leb};
 ghost use Rattle.std.specs.Orderings.{Decides};
-ghost use Rattle.ring.specs.Checks.{verdict};
+ghost use Rattle.ring.specs.Checks.{verdict, when};
 ghost use Rattle.layout.specs.declared.error.JaggedLayoutError.the-variants.{NoSuchColumn};
 ghost use Rattle.layout.specs.Layout.{shape};
-ghost use Rattle.layout.specs.Rules.{when};
 ghost use Rattle.layout.specs.Shape.{Lawful, columns, height, area, capacity, boundaries};
 use crate::error::JaggedLayoutError;
 use crate::geometry::JaggedLayout;
@@ -70,6 +69,7 @@ impl JaggedLayout {
     // The boundaries, where they lie in the layout.
     pub fn cumulative_heights(&self) -> &[usize]
         ensures value { λ r. ⌜ now r ≡ boundaries (shape (now (self .entry))) ⌝ }
+        ensures lawful { λ _. ⌜ Lawful (shape (now (self .entry))) ⌝ }
         ensures place { λ r. ⌜ ptr r .0 ≡ ptr (self .entry) .0 ⌝ ∗ ⌜ ptr r .1 ≡ ptr (self .entry) .1 + 24 ⌝ }
     {
         &self.boundaries[0..self.columns + 1]

@@ -4,3 +4,4 @@ pub mod Halves
 pub mod Remainders
 pub mod Solve
 pub mod Spellings
+pub mod Verdicts

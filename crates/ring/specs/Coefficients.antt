@@ -5,7 +5,7 @@ use Prim.Native.Nat.{ℕ, _-_, _^_, min}
 use lib.Dec.{ltb}
 use Rattle.std.specs.declared.option.Option.{Option}
 use Rattle.std.specs.declared.option.Option.the-variants.{Some, None}
-use Rattle.ring.specs.Checks.{Check}
+use Rattle.ring.specs.Checks.{Check, when}
 use Rattle.ring.specs.declared.fault.RingError.{RingError}
 use Rattle.ring.specs.declared.fault.RingError.the-variants.{BufferTooShort}
 
@@ -15,7 +15,7 @@ told n = min n (2 ^ 64 - 1)
 
 -- the check of a call that writes a number of bytes into the room that it is lent
 abbrev pub roomChecks : ℕ → ℕ → List (Check RingError)
-roomChecks required available = record { fails = ltb available required; fault = BufferTooShort (told required) available } ∷ []
+roomChecks required available = when (ltb available required) (BufferTooShort (told required) available) ∷ []
 
 -- reading back: an element whose bytes these are, or none where no element has them
 abbrev pub ReadBack : {E : Type 0} → (E → List ℕ) → List ℕ → Option E → Type 0

@@ -10,7 +10,7 @@ use Rattle.std.proofs.shelf.Sums.{sumBy-more}
 use Rattle.ring.specs.Checks.{Passed}
 use Rattle.layout.specs.Plan.{columnChecks, heightChecks}
 use Rattle.layout.proofs.Plans.{too-tall, too-much, column-passed}
-use Rattle.layout.proofs.Verdicts.{verdict-all}
+use Rattle.ring.proofs.Verdicts.{verdict-all}
 use Rattle.layout.proofs.build.area_of.Needs as need
 
 pub returns-then-height-maximum : need.returns-then-height-maximum

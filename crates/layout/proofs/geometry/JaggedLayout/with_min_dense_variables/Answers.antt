@@ -13,7 +13,7 @@ use Rattle.layout.specs.Shape.{Shape}
 use Rattle.layout.proofs.Plans.{accepted-passed, accepted-dense, plan-power, plan-area, plan-lawful}
 use Rattle.layout.proofs.Powers.{powers-of-two, covering-least}
 use Rattle.layout.proofs.Shapes.{all-lawful, heights-are, same-shape}
-use Rattle.layout.proofs.Verdicts.{verdict-err, verdict-all, first-from-err}
+use Rattle.ring.proofs.Verdicts.{verdict-err, verdict-all, first-from-err}
 use Rattle.layout.proofs.geometry.JaggedLayout.with_min_dense_variables.Needs as need
 
 pub returns-in-Break-dense-variables : need.returns-in-Break-dense-variables

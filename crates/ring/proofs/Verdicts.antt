@@ -13,8 +13,8 @@ use Rattle.std.proofs.shelf.Counted.{map-counting-more}
 use Rattle.std.proofs.shelf.Lists.{append-nil, joined-more, map-id}
 use Rattle.std.proofs.shelf.Results.{cases-weaker}
 use Rattle.std.proofs.shelf.Tests.{cases-bool, cond-true, cond-false}
 use Rattle.ring.specs.Checks.{Check, verdict, Passed, First}
-use Rattle.layout.specs.Rules.{when, Told}
+use Rattle.ring.specs.Checks.{when, Told}
 
 module _ {F : Type 0} where
   -- checks that pass leave the answer to those after them

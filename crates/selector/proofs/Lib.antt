@@ -1,0 +1,9 @@
+pub mod Filled
+pub mod Fronts
+pub mod Places
+pub mod Runs
+pub mod Selectors
+pub mod Spreads
+pub mod Steps
+pub mod Suffixes
+pub mod Sums
