@@ -13,14 +13,13 @@ use Rattle.std.specs.Written.{decimal}
 use Rattle.std.specs.declared.result.Result.{Result}
 use Rattle.std.specs.declared.result.Result.the-variants.{Ok, Err}
 use Rattle.ring.specs.Bytes.{over}
-use Rattle.ring.specs.Checks.{verdict}
+use Rattle.ring.specs.Checks.{verdict, when}
 use Rattle.ring.specs.Coefficients.{told as toldWidth, roomChecks}
 use Rattle.ring.specs.declared.fault.RingError.{RingError}
 use Rattle.layout.specs.declared.error.JaggedLayoutError.{JaggedLayoutError}
 use Rattle.layout.specs.declared.error.JaggedLayoutError.the-variants.{BufferTooShort, NoSuchColumn}
 use Rattle.layout.specs.Encoding.{layoutBytes, layoutLength}
 use Rattle.layout.specs.Plan.{checks, planned}
-use Rattle.layout.specs.Rules.{when}
 use Rattle.layout.specs.Shape.{Shape, columns, height}
 use Rattle.script.specs.declared.answer.Answer.{Answer}
 use Rattle.script.specs.declared.call.Kind.{Kind}

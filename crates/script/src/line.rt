@@ -11,7 +11,7 @@ ghost use Rattle.script.specs.Cuts.{texts};
 ghost use Rattle.script.specs.Lines.{isSkipped, Recorded, Prints, slotsBy, slotsAfterLine};
 ghost use Rattle.script.specs.Slots.{slot, Same};
 use crate::answer::Answer;
-use crate::parse::parse;
+use crate::grammar::parse;
 use crate::session::Session;
 use crate::split::words;
 use crate::text::record;

@@ -4,11 +4,10 @@ use lib.Dec.{ltb}
 use lib.ListN.{length}
 use mathlib.Core.List.{[], _∷_}
 use Rattle.std.proofs.shelf.Lists.{refilled-is}
-use Rattle.ring.specs.Checks.{verdict}
+use Rattle.ring.specs.Checks.{verdict, when}
 use Rattle.layout.specs.declared.error.JaggedLayoutError.the-variants.{BufferTooShort}
 use Rattle.layout.specs.Encoding.{layoutBytes, layoutLength}
 use Rattle.layout.specs.Layout.{shape}
-use Rattle.layout.specs.Rules.{when}
 use Rattle.script.specs.Records.{layoutFault}
 use Rattle.script.specs.Replies.{encodeReply}
 use Rattle.script.proofs.Making.{written-told}

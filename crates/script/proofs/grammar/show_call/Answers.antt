@@ -5,7 +5,7 @@ use Rattle.std.specs.declared.option.Option.the-variants.{Some, None}
 use Rattle.script.specs.Calls.{show}
 use Rattle.script.specs.Words.{nameOf}
 use Rattle.script.proofs.Parsing.{count-no, one-told}
-use Rattle.script.proofs.parse.show_call.Needs as need
+use Rattle.script.proofs.grammar.show_call.Needs as need
 
 pub returns-then-arguments-ne1 : need.returns-then-arguments-ne1
 returns-then-arguments-ne1 c = count-no (c .args .arguments .now) 1 _ (c .if-arguments-ne1 .taken)

@@ -3,7 +3,7 @@ use Rattle.std.specs.Options.{mapped}
 use Rattle.std.specs.declared.option.Option.the-variants.{Some, None}
 use Rattle.script.specs.Calls.{ringSaid}
 use Rattle.script.proofs.Parsing.{no-arguments, kind-told}
-use Rattle.script.proofs.parse.kind_call.Needs as need
+use Rattle.script.proofs.grammar.kind_call.Needs as need
 
 pub returns-then-is-empty : need.returns-then-is-empty
 returns-then-is-empty c = no-arguments (c .args .name .now) (c .args .arguments .now) (sym (c .if-is-empty .ensures tt))

@@ -6,7 +6,7 @@ use Rattle.std.specs.declared.option.Option.the-variants.{Some, None}
 use Rattle.script.specs.Calls.{layOut}
 use Rattle.script.specs.Words.{listOf, nameOf, numberOf}
 use Rattle.script.proofs.Parsing.{count-no, three-told}
-use Rattle.script.proofs.parse.new_call.Needs as need
+use Rattle.script.proofs.grammar.new_call.Needs as need
 
 pub returns-then-arguments-ne3 : need.returns-then-arguments-ne3
 returns-then-arguments-ne3 c = count-no (c .args .arguments .now) 3 _ (c .if-arguments-ne3 .taken)

@@ -4,7 +4,7 @@ use Rattle.std.specs.declared.option.Option.the-variants.{Some, None}
 use Rattle.script.specs.Calls.{fromBool}
 use Rattle.script.specs.Words.{truthOf}
 use Rattle.script.proofs.Parsing.{count-no, one-told}
-use Rattle.script.proofs.parse.bool_call.Needs as need
+use Rattle.script.proofs.grammar.bool_call.Needs as need
 
 pub returns-then-arguments-ne1 : need.returns-then-arguments-ne1
 returns-then-arguments-ne1 c = count-no (c .args .arguments .now) 1 _ (c .if-arguments-ne1 .taken)

@@ -7,7 +7,7 @@ use Rattle.std.specs.shelf.Text.{sameBytes}
 use Rattle.script.specs.Calls.{Said, said}
 use Rattle.script.specs.Cuts.{texts}
 use Rattle.script.proofs.Parsing.{layoutBy}
-use Rattle.script.proofs.parse.layout_call.Needs as need
+use Rattle.script.proofs.grammar.layout_call.Needs as need
 
 pub returns-then-says : need.returns-then-says
 returns-then-says c =

@@ -5,7 +5,7 @@ use Rattle.std.specs.declared.option.Option.{Option}
 use Rattle.std.specs.declared.option.Option.the-variants.{Some, None}
 use Rattle.script.specs.Calls.{Said, said}
 use Rattle.script.proofs.Parsing.{no-words, words-told}
-use Rattle.script.proofs.parse.parse.Needs as need
+use Rattle.script.proofs.grammar.parse.Needs as need
 
 pub returns-then-is-empty : need.returns-then-is-empty
 returns-then-is-empty c = no-words (c .args .words .now) (sym (c .if-is-empty .ensures tt))

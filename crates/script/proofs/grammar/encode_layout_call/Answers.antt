@@ -5,7 +5,7 @@ use Rattle.std.specs.declared.option.Option.the-variants.{Some, None}
 use Rattle.script.specs.Calls.{encodeLayout}
 use Rattle.script.specs.Words.{nameOf, sizeOf}
 use Rattle.script.proofs.Parsing.{count-no, two-told}
-use Rattle.script.proofs.parse.encode_layout_call.Needs as need
+use Rattle.script.proofs.grammar.encode_layout_call.Needs as need
 
 pub returns-then-arguments-ne2 : need.returns-then-arguments-ne2
 returns-then-arguments-ne2 c = count-no (c .args .arguments .now) 2 _ (c .if-arguments-ne2 .taken)

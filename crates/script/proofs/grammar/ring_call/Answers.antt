@@ -7,7 +7,7 @@ use Rattle.std.specs.shelf.Text.{sameBytes}
 use Rattle.script.specs.Calls.{RingSaid, ringSaid}
 use Rattle.script.specs.Cuts.{texts}
 use Rattle.script.proofs.Parsing.{ringBy}
-use Rattle.script.proofs.parse.ring_call.Needs as need
+use Rattle.script.proofs.grammar.ring_call.Needs as need
 
 pub returns-then-says : need.returns-then-says
 returns-then-says c = c .bare-call .ensures ∙ (λ t. ringBy (c .args .name .now) (texts (c .args .arguments .now)) (c .if-says .ensures tt t) (sameBytes (c .args .name .now) (codes "zero")) (sameBytes (c .args .name .now) (codes "one")) (sameBytes (c .args .name .now) (codes "encode")) (sameBytes (c .args .name .now) (codes "read")) (sameBytes (c .args .name .now) (codes "from_bool")))

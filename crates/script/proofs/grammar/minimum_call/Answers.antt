@@ -6,7 +6,7 @@ use Rattle.std.specs.declared.option.Option.the-variants.{Some, None}
 use Rattle.script.specs.Calls.{layOut}
 use Rattle.script.specs.Words.{listOf, nameOf, numberOf}
 use Rattle.script.proofs.Parsing.{count-no, four-told}
-use Rattle.script.proofs.parse.minimum_call.Needs as need
+use Rattle.script.proofs.grammar.minimum_call.Needs as need
 
 pub returns-then-arguments-ne4 : need.returns-then-arguments-ne4
 returns-then-arguments-ne4 c = count-no (c .args .arguments .now) 4 _ (c .if-arguments-ne4 .taken)
