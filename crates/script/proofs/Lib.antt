@@ -1,0 +1,5 @@
+pub mod Cutting
+pub mod Making
+pub mod Parsing
+pub mod Saying
+pub mod Writing

@@ -1,0 +1,9 @@
+pub mod Calls
+pub mod Cuts
+pub mod Kits
+pub mod Lines
+pub mod Operate
+pub mod Records
+pub mod Replies
+pub mod Slots
+pub mod Words
