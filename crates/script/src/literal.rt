@@ -18,7 +18,7 @@ use std::alloc::Global;
 pub const MAX_CELLS: usize = 16777216;
 
 // The number that a word of decimal digits writes, if it is below 2^64.
-pub fn number(word: &[u8]) -> Option<usize>
+pub(crate) fn number(word: &[u8]) -> Option<usize>
     ensures { λ r. ⌜ r ≡ numberOf (now (word .entry)) ⌝ }
 {
     if word.is_empty() {
@@ -35,7 +35,7 @@ pub fn number(word: &[u8]) -> Option<usize>
 }
 
 // The length of a list or a buffer.
-pub fn size(word: &[u8]) -> Option<usize>
+pub(crate) fn size(word: &[u8]) -> Option<usize>
     ensures { λ r. ⌜ r ≡ sizeOf (now (word .entry)) ⌝ }
 {
     let size = number(word)?;
@@ -67,7 +67,7 @@ fn repeat(list: &mut Vec<usize>, value: usize, times: usize) -> Result<(), Alloc
 }
 
 // The list that a word says: items with commas between them, or a dash for the empty list.
-pub fn list(heap: Global, word: &[u8]) -> Result<Option<Vec<usize>>, AllocError>
+pub(crate) fn list(heap: Global, word: &[u8]) -> Result<Option<Vec<usize>>, AllocError>
     ensures { λ r. ⌜ made r (λ o. mapped vec-items o ≡ listOf (now (word .entry))) ⌝ }
 {
     let mut list = Vec::new(heap);
@@ -88,7 +88,7 @@ pub fn list(heap: Global, word: &[u8]) -> Result<Option<Vec<usize>>, AllocError>
 }
 
 // Whether a word is this one.
-pub fn says(word: &[u8], text: &str) -> bool
+pub(crate) fn says(word: &[u8], text: &str) -> bool
     ensures { λ r. ⌜ r ≡ sameBytes (now (word .entry)) (now (text .entry)) ⌝ }
 {
     word == text.as_bytes()
@@ -115,7 +115,7 @@ fn byte(high: u8, low: u8) -> Option<u8>
 }
 
 // The bytes that a word says: two hexadecimal digits each, or a dash for none.
-pub fn bytes(heap: Global, word: &[u8]) -> Result<Option<Vec<u8>>, AllocError>
+pub(crate) fn bytes(heap: Global, word: &[u8]) -> Result<Option<Vec<u8>>, AllocError>
     ensures { λ r. ⌜ made r (λ o. mapped vec-items o ≡ bytesOf (now (word .entry))) ⌝ }
 {
     let mut bytes = Vec::new(heap);
@@ -157,7 +157,7 @@ fn is_name(word: &[u8]) -> bool
 }
 
 // The name that a word says.
-pub fn name(heap: Global, word: &[u8]) -> Result<Option<String>, AllocError>
+pub(crate) fn name(heap: Global, word: &[u8]) -> Result<Option<String>, AllocError>
     ensures { λ r. ⌜ made r (λ o. mapped string-bytes o ≡ nameOf (now (word .entry))) ⌝ }
 {
     if !is_name(word) {
@@ -170,7 +170,7 @@ pub fn name(heap: Global, word: &[u8]) -> Result<Option<String>, AllocError>
 }
 
 // The flag that a word says.
-pub fn truth(word: &[u8]) -> Option<bool>
+pub(crate) fn truth(word: &[u8]) -> Option<bool>
     ensures { λ r. ⌜ r ≡ truthOf (now (word .entry)) ⌝ }
 {
     if says(word, "true") {

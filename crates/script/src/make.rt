@@ -21,7 +21,7 @@ use std::alloc::Global;
 const BLANK: u8 = 0xee;
 
 // A buffer of so many bytes.
-pub fn blank_buffer(heap: Global, room: usize) -> Result<Vec<u8>, AllocError>
+pub(crate) fn blank_buffer(heap: Global, room: usize) -> Result<Vec<u8>, AllocError>
     ensures { λ r. ⌜ made r (λ v. (vec-items v ≡ blank room) × (vec-len v ≡ room)) ⌝ }
 {
     Vec::from_elem(heap, BLANK, room)

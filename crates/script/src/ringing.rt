@@ -34,7 +34,7 @@ pub enum Operation {
 }
 
 // Makes a call at its ring kind.
-pub fn ring_answer(heap: Global, kind: Kind, call: RingCall) -> Result<Answer, AllocError>
+pub(crate) fn ring_answer(heap: Global, kind: Kind, call: RingCall) -> Result<Answer, AllocError>
     ensures { λ r. ⌜ made r (KindReply kind (ringSaid call)) ⌝ }
 {
     match kind {

@@ -33,7 +33,7 @@ impl Mark {
 }
 
 // How many bytes stand before the first mark.
-pub fn reach(text: &[u8], mark: Mark) -> usize
+pub(crate) fn reach(text: &[u8], mark: Mark) -> usize
     ensures answer { λ r. ⌜ r ≡ ahead mark (now (text .entry)) ⌝ }
     ensures within { λ r. ⌜ r ≤ length (now (text .entry)) ⌝ }
 {
