@@ -1,4 +1,5 @@
 // Worked examples of the layers: proved of the definitions, and run over the public calls.
+ghost use mathlib.Core.Path.{_≡_};
 ghost use Rattle.checks.specs.Traces.{Traces};
 
 #[cfg(test)]
@@ -8,7 +9,8 @@ mod selector_values;
 
 // The worked examples hold of the definitions that the contracts cite; tells how many there are.
 pub fn traces_hold() -> u8
-    ensures { λ _. ⌜ Traces ⌝ }
+    ensures traces { λ _. ⌜ Traces ⌝ }
+    ensures count { λ r. ⌜ r ≡ 12 ⌝ }
 {
     12
 }

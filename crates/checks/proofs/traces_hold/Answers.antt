@@ -7,6 +7,7 @@ use lib.Pow.{pow-mono}
 use Rattle.layout.proofs.Powers.{covering-least, least-same}
 use Rattle.layout.specs.Encoding.{layoutBytes}
 use Rattle.layout.specs.Powers.{covering, Least}
+use Rattle.checks.specs.Traces.{Traces}
 use Rattle.checks.proofs.traces_hold.Needs as need
 
 covering-one : covering 1 ≡ 0
@@ -29,9 +30,9 @@ covering-four = refl
 covering-top : covering (2 ^ 63) ≡ 63
 covering-top = least-same (λ e. 2 ^ 63 ≤ 2 ^ e) (covering (2 ^ 63)) 63 (covering-least (2 ^ 63)) (record { holds = lit≤ tt; none-below = λ k h le. let up = pow-mono {i = k} {j = 62} (omega arith) in omega arith })
 
-pub returns : need.returns
+traces : Traces
 unfolding ones layoutBytes
-returns c = record {
+traces = record {
   first-layout = (rw covering-three, refl, rw covering-three);
   nothing = (rw covering-one, refl);
   row-variables = (rw covering-one, refl);
@@ -45,3 +46,6 @@ returns c = record {
   corner = refl;
   bytes = rw covering-three;
 }
+
+pub returns : need.returns
+returns c = record { traces = traces; count = refl }
