@@ -27,7 +27,8 @@ impl Word {
     pub fn number(self) -> u64
         ensures { λ r. ⌜ r ≡ wordValue self .0 ⌝ }
     {
-        self.number
+        let Word { number } = self;
+        number
     }
 }
 
