@@ -1,0 +1,24 @@
+// Reading a trace: record tables over the caller's memory, the dense vector that they are written to, and the witness.
+mod fault;
+mod record;
+mod table;
+
+pub use fault::JaggedIngestError;
+pub use fault::JaggedIngestErrorDebug;
+pub use fault::JaggedIngestErrorEq;
+pub use fault::JaggedIngestErrorFromLeaf;
+pub use fault::JaggedIngestErrorPartialEq;
+pub use fault::LeafError;
+pub use fault::LeafErrorDebug;
+pub use fault::LeafErrorEq;
+pub use fault::LeafErrorPartialEq;
+pub use record::ConversionPass;
+pub use record::ConversionPassDebug;
+pub use record::ConversionPassEq;
+pub use record::ConversionPassPartialEq;
+pub use record::MAX_RECORDS;
+pub use record::Record;
+pub use record::RecordDebug;
+pub use record::RecordEq;
+pub use record::RecordPartialEq;
+pub use table::check_order;

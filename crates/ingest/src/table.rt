@@ -1,0 +1,32 @@
+// Tables of records: their order, and the heights and passes of their columns.
+ghost use mathlib.Core.List.{[], _∷_};
+ghost use mathlib.Core.Path.{_≡_};
+ghost use Rattle.ring.specs.Checks.{verdict};
+ghost use Rattle.ingest.specs.Order.{orderCheck};
+use crate::fault::JaggedIngestError;
+use crate::record::MAX_RECORDS;
+use crate::record::Record;
+
+// Refuses a table whose runs do not follow one another, or that lacks a record or has one too many.
+pub fn check_order(table: &[Record], sources: usize) -> Result<(), JaggedIngestError>
+    ensures answer { λ r. ⌜ r ≡ verdict (orderCheck (now (table .entry)) sources ∷ []) tt ⌝ }
+{
+    // Where the next run begins; a sum of two indexes, so it can be past every index.
+    let mut next = sources as u128;
+    for (record, entry) in table.iter().enumerate() {
+        if record as u128 >= next || record >= MAX_RECORDS {
+            return Err(JaggedIngestError::TableOutOfOrder { record });
+        }
+        if let Record::Chunked { from, count } = *entry {
+            if from as u128 != next {
+                return Err(JaggedIngestError::TableOutOfOrder { record });
+            }
+            next = from as u128 + count as u128;
+        }
+    }
+    let record = table.len();
+    if (record as u128) < next {
+        return Err(JaggedIngestError::TableOutOfOrder { record });
+    }
+    Ok(())
+}
