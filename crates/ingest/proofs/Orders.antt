@@ -3,12 +3,12 @@ use mathlib.Core.Path.{_≡_, refl, sym, ap, subst, _∙_}
 use mathlib.Core.Bool.{Bool, true, false, not, cond, _||_}
 use mathlib.Core.List.{List, [], _∷_}
 use mathlib.Core.Logic.{_⊎_, inl, inr, ⊎-elim}
-use Prim.Native.Nat.{ℕ, _+_, _≤_, _<_}
+use Prim.Native.Nat.{ℕ, zero, suc, _+_, _≤_, _<_}
 use native.Mathlib.Omega.{arith}
 use lib.Dec.{eqb, leb, ltb}
 use lib.ListN.{length, getD, drop}
 use Rattle.std.proofs.shelf.Lists.{at-drop-more, at-drop-all}
-use Rattle.std.proofs.shelf.Tests.{cond-true, cond-false, lt-ltb, le-ltb, le-leb, lt-leb, or-left, or-right, or-from, not-from-true, not-from-false}
+use Rattle.std.proofs.shelf.Tests.{cond-true, cond-false, lt-ltb, le-ltb, le-leb, lt-leb, or-left, or-right, or-from, or-parts, not-false, leb-false, eqb-true, cases-bool, cases-lt, cases-eq, not-from-true, not-from-false}
 use Rattle.std.specs.Options.{isSome, valueOr}
 use Rattle.std.specs.declared.option.Option.{Option}
 use Rattle.std.specs.declared.option.Option.the-variants.{Some, None}
@@ -19,6 +19,7 @@ use Rattle.ingest.specs.declared.fault.JaggedIngestError.{JaggedIngestError}
 use Rattle.ingest.specs.declared.fault.JaggedIngestError.the-variants.{TableOutOfOrder}
 use Rattle.ingest.specs.declared.record.Record.{Record}
 use Rattle.ingest.specs.declared.record.Record.the-variants.{Dense, Interleaved, Bits, Chunked}
+use Rattle.ingest.specs.Table.{Sound}
 use Rattle.ingest.specs.Order.{maxRecords, recordAt, beginsAt, runEnd, wrongFrom, wrongRecord, orderCheck}
 
 -- a leaf begins no run
@@ -27,6 +28,13 @@ leaf-begins next (Dense place height) no-chunk = (refl, refl)
 leaf-begins next (Interleaved place len first stride height) no-chunk = (refl, refl)
 leaf-begins next (Bits place words height) no-chunk = (refl, refl)
 leaf-begins next (Chunked from count) no-chunk = absurd (no-chunk from count refl)
+
+some-none : (i : ℕ) → None ≡ Some i → ⊥
+some-none i e = let z : _≡_ {A = ℕ} 0 1 = cc in omega arith
+
+none-from : (w : Option ℕ) → _≡_ {A = Result (Unit {0}) JaggedIngestError} (verdict (when (isSome w) (TableOutOfOrder (valueOr w 0)) ∷ []) tt) (Ok tt) → w ≡ None
+none-from None e = refl
+none-from (Some i) e = let z : _≡_ {A = ℕ} 0 1 = cc in absurd (omega arith)
 
 module _ (t : List Record) where
   bad : ℕ → ℕ → Bool
@@ -70,3 +78,63 @@ module _ (t : List Record) where
 
   pub order-passed : (sources : ℕ) → wrongRecord t sources ≡ None → _≡_ {A = Result (Unit {0}) JaggedIngestError} (Ok tt) (verdict (orderCheck t sources ∷ []) tt)
   order-passed sources e = sym (ap (λ w. answered w) e)
+
+  -- a record that the scan passed
+  passed : (i next : ℕ) → i < length t → wrongFrom i next (drop i t) ≡ None → (i < next) × (i < maxRecords) × (beginsAt next (recordAt t i) ≡ true) × (wrongFrom (i + 1) (runEnd next (recordAt t i)) (drop (i + 1) t) ≡ None)
+  unfolding bad
+  passed i next h none =
+      ⊎-elim
+      (λ stops. absurd (some-none i (sym (sym (step i next h) ∙ none) ∙ cond-true _ _ _ stops)))
+      (λ goes.
+      let parts = or-parts _ _ goes in
+      let first-parts = or-parts _ _ (parts .0) in
+      (leb-false next i (first-parts .0), leb-false maxRecords i (first-parts .1), not-false _ (parts .1), sym (cond-false (bad i next) (Some i) (wrongFrom (i + 1) (runEnd next (recordAt t i)) (drop (i + 1) t)) goes) ∙ sym (step i next h) ∙ none))
+      (cases-bool (bad i next))
+
+  -- runs do not shrink what they have reached
+  next-grows : (next : ℕ) (r : Record) → beginsAt next r ≡ true → next ≤ runEnd next r
+  next-grows next (Dense place height) e = omega arith
+  next-grows next (Interleaved place len first stride height) e = omega arith
+  next-grows next (Bits place words height) e = omega arith
+  next-grows next (Chunked from count) e = omega (arith, eqb-true from next e)
+
+  begins-chunk : (next i from count : ℕ) → recordAt t i ≡ Chunked from count → beginsAt next (recordAt t i) ≡ true → (from ≡ next) × (runEnd next (recordAt t i) ≡ from + count)
+  begins-chunk next i from count e b = (eqb-true from next (sym (ap (beginsAt next) e) ∙ b), ap (runEnd next) e)
+
+  sound-from : (k i next : ℕ) → i + k ≡ length t → wrongFrom i next (drop i t) ≡ None → (next ≤ length t) × ((j from count : ℕ) → i ≤ j → j < length t → recordAt t j ≡ Chunked from count → (j < from) × (from + count ≤ length t))
+  sound-from zero i next e none = (
+    ⊎-elim (λ wanted. absurd (some-none i (sym none ∙ wrong-absent i next (omega arith) wanted))) (λ reached. omega arith) (cases-lt i next),
+    (λ j from count low high chunk. absurd (omega arith)),
+  )
+  sound-from (suc k) i next e none =
+      let p = passed i next (omega arith) none in
+      let later = sound-from k (i + 1) (runEnd next (recordAt t i)) (omega arith) (p .3) in
+      let grows = next-grows next (recordAt t i) (p .2) in
+      (omega (arith, later .0), (λ j from count low high chunk.
+      ⊎-elim
+      (λ same.
+      let at-i : recordAt t i ≡ Chunked from count = subst (λ n. recordAt t n ≡ Chunked from count) same chunk in
+      let b = begins-chunk next i from count at-i (p .2) in
+      (omega (arith, p .0, b .0), omega (arith, later .0, b .1)))
+      (λ other. later .1 j from count (omega arith) high chunk)
+      (cases-eq j i)))
+
+  -- a table in order keeps its parts after their chunks; its columns are present, and it is not too long
+  pub sound : (sources : ℕ) → wrongRecord t sources ≡ None → Sound t
+  sound sources none j from count high chunk = sound-from (length t) 0 sources (omega arith) none .1 j from count (omega arith) high chunk
+
+  pub sources-present : (sources : ℕ) → wrongRecord t sources ≡ None → sources ≤ length t
+  sources-present sources none = sound-from (length t) 0 sources (omega arith) none .0
+
+  few-from : (k i next : ℕ) → i + k ≡ length t → i ≤ maxRecords → wrongFrom i next (drop i t) ≡ None → length t ≤ maxRecords
+  few-from zero i next e few none = omega arith
+  few-from (suc k) i next e few none =
+      let p = passed i next (omega arith) none in
+      few-from k (i + 1) (runEnd next (recordAt t i)) (omega arith) (omega (arith, p .1)) (p .3)
+
+  pub few-records : (sources : ℕ) → wrongRecord t sources ≡ None → length t ≤ maxRecords
+  few-records sources none = few-from (length t) 0 sources (omega arith) (omega arith) none
+
+  -- what a passed check tells
+  pub order-none : (sources : ℕ) → _≡_ {A = Result (Unit {0}) JaggedIngestError} (verdict (orderCheck t sources ∷ []) tt) (Ok tt) → wrongRecord t sources ≡ None
+  order-none sources e = none-from (wrongRecord t sources) e

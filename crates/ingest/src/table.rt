@@ -2,7 +2,11 @@
 ghost use mathlib.Core.List.{[], _∷_};
 ghost use mathlib.Core.Path.{_≡_};
 ghost use Rattle.ring.specs.Checks.{verdict};
+ghost use Prim.Native.Nat.{_^_, _<_};
+ghost use lib.ListN.{length};
+ghost use Rattle.std.specs.Numbers.{Checked};
 ghost use Rattle.ingest.specs.Order.{orderCheck};
+ghost use Rattle.ingest.specs.Table.{Sound, heightOf};
 use crate::fault::JaggedIngestError;
 use crate::record::MAX_RECORDS;
 use crate::record::Record;
@@ -29,4 +33,24 @@ pub fn check_order(table: &[Record], sources: usize) -> Result<(), JaggedIngestE
         return Err(JaggedIngestError::TableOutOfOrder { record });
     }
     Ok(())
+}
+
+// A record's height, or none if it is no machine index.
+fn height_of(table: &[Record], record: usize) -> Option<usize>
+    requires sound { ⌜ Sound (now table) ⌝ }
+    requires within { ⌜ «record» < length (now table) ⌝ }
+    ensures { λ r. ⌜ Checked r (heightOf (now (table .entry)) «record» < 2 ^ 64) (heightOf (now (table .entry)) «record») ⌝ }
+{
+    match table[record] {
+        Record::Dense { height, .. } => Some(height),
+        Record::Interleaved { height, .. } => Some(height),
+        Record::Bits { height, .. } => Some(height),
+        Record::Chunked { from, count } => {
+            let mut total: usize = 0;
+            for part in from..from + count {
+                total = total.checked_add(height_of(table, part)?)?;
+            }
+            Some(total)
+        }
+    }
 }
