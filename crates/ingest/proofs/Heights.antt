@@ -1,17 +1,17 @@
 -- A chunk's height, part by part. Assumes nothing.
-use mathlib.Core.Path.{_≡_, refl, sym, ap, subst, _∙_}
+use mathlib.Core.Path.{_≡_, subst}
 use mathlib.Core.List.{List}
 use Prim.Native.Nat.{ℕ, _+_, _-_, _≤_, _<_}
 use native.Mathlib.Omega.{arith}
-use lib.ListN.{length, getD, take, drop}
+use lib.ListN.{length, take, drop}
 use Rattle.std.specs.shelf.Lists.{sum}
-use Rattle.std.proofs.shelf.Lists.{length-drop, getD-drop, length-take-le, take-take}
-use Rattle.std.proofs.shelf.Sums.{sumBy-more, sumBy-take-le}
+use Rattle.std.proofs.shelf.Lists.{take-take}
+use Rattle.std.proofs.shelf.Sums.{sumBy-take-le}
 use Rattle.ingest.specs.declared.record.Record.{Record}
 use Rattle.ingest.specs.declared.record.Record.the-variants.{Dense, Interleaved, Bits, Chunked}
 use Rattle.ingest.specs.Order.{recordAt}
-use Rattle.ingest.specs.Table.{yielded, yields, leafHeight, heightsOf, heightOf}
-use Rattle.ingest.proofs.Yields.{length-yields, yield-is, yield-chunk}
+use Rattle.ingest.specs.Table.{leafHeight, heightsOf, heightOf}
+use Rattle.ingest.proofs.Yields.{fold-at, length-yields, yield-is, yield-chunk}
 
 module _ (t : List Record) where
   pub heights-long : length (heightsOf t) ≡ length t
@@ -34,24 +34,15 @@ module _ (t : List Record) where
   unfolding heightsOf
   height-chunk i from count h e later = yield-chunk (λ _ r. leafHeight r) sum t i 0 h from count e later
 
-  -- the first k parts of a run, and one more
-  pub run-more : (from k : ℕ) → from + k < length t → sum (take (k + 1) (drop from (heightsOf t))) ≡ sum (take k (drop from (heightsOf t))) + heightOf t (from + k)
-  run-more from k h =
-      sumBy-more (λ x. x) (drop from (heightsOf t)) k 0 (omega (arith, length-drop from (heightsOf t), heights-long))
-      ∙ ap (λ n. sum (take k (drop from (heightsOf t))) + n) (getD-drop from (heightsOf t) k 0)
-
   -- fewer parts have no more rows
   pub run-le : (from k count : ℕ) → k ≤ count → sum (take k (drop from (heightsOf t))) ≤ sum (take count (drop from (heightsOf t)))
   run-le from k count h =
       subst (λ l. sum l ≤ sum (take count (drop from (heightsOf t)))) (take-take k count (drop from (heightsOf t)) h)
       (sumBy-take-le (λ x. x) (take count (drop from (heightsOf t))) k)
 
-  -- the same up to part p of a run
+  -- the parts of a run up to part p, and one more
   pub run-at : (from p : ℕ) → from ≤ p → p < length t → sum (take (p + 1 - from) (drop from (heightsOf t))) ≡ sum (take (p - from) (drop from (heightsOf t))) + heightOf t p
-  run-at from p low h =
-      let e : p + 1 - from ≡ (p - from) + 1 = omega arith in
-      let back : from + (p - from) ≡ p = omega arith in
-      ap (λ n. sum (take n (drop from (heightsOf t)))) e ∙ run-more from (p - from) (omega arith) ∙ ap (λ n. sum (take (p - from) (drop from (heightsOf t))) + heightOf t n) back
+  run-at from p low h = fold-at (λ a x. a + x) 0 (heightsOf t) from p 0 low (omega (arith, heights-long))
 
   -- a part and those before it have no more rows than the chunk
   pub part-le : (i from count p : ℕ) → heightOf t i ≡ sum (take count (drop from (heightsOf t))) → from ≤ p → p < from + count → from + count ≤ length t → sum (take (p - from) (drop from (heightsOf t))) + heightOf t p ≤ heightOf t i

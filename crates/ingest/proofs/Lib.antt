@@ -1,3 +1,4 @@
-pub mod Orders
-pub mod Yields
 pub mod Heights
+pub mod Orders
+pub mod Ranks
+pub mod Yields

@@ -14,7 +14,8 @@ use Rattle.std.specs.declared.option.Option.{Option}
 use Rattle.std.specs.declared.option.Option.the-variants.{Some, None}
 use Rattle.std.specs.declared.result.Result.{Result}
 use Rattle.std.specs.declared.result.Result.the-variants.{Ok, Err}
-use Rattle.ring.specs.Checks.{verdict, when}
+use Rattle.ring.specs.Checks.{Check, verdict, when}
+use Rattle.ring.proofs.Verdicts.{verdict-refused}
 use Rattle.ingest.specs.declared.fault.JaggedIngestError.{JaggedIngestError}
 use Rattle.ingest.specs.declared.fault.JaggedIngestError.the-variants.{TableOutOfOrder}
 use Rattle.ingest.specs.declared.record.Record.{Record}
@@ -138,3 +139,10 @@ module _ (t : List Record) where
   -- what a passed check tells
   pub order-none : (sources : ℕ) → _≡_ {A = Result (Unit {0}) JaggedIngestError} (verdict (orderCheck t sources ∷ []) tt) (Ok tt) → wrongRecord t sources ≡ None
   order-none sources e = none-from (wrongRecord t sources) e
+
+  -- a table in order leaves the answer to the checks after it, and any other decides it
+  pub order-goes : {T : Type 0} (sources : ℕ) (rest : List (Check JaggedIngestError)) (v : T) → wrongRecord t sources ≡ None → verdict (orderCheck t sources ∷ rest) v ≡ verdict rest v
+  order-goes sources rest v e = ap (λ w. verdict (when (isSome w) (TableOutOfOrder (valueOr w 0)) ∷ rest) v) e
+
+  pub order-stops : {T : Type 0} (sources : ℕ) (rest : List (Check JaggedIngestError)) (v : T) (e : JaggedIngestError) → _≡_ {A = Result (Unit {0}) JaggedIngestError} (verdict (orderCheck t sources ∷ []) tt) (Err e) → verdict (orderCheck t sources ∷ rest) v ≡ Err e
+  order-stops sources rest v e h = verdict-refused (orderCheck t sources ∷ []) rest v tt e h

@@ -5,7 +5,9 @@ use Prim.Native.Nat.{ℕ, zero, suc, _+_, _-_, _≤_, _<_}
 use native.Mathlib.Nat.{add-zero}
 use native.Mathlib.Omega.{arith}
 use lib.ListN.{length, getD, take, drop}
-use Rattle.std.proofs.shelf.Lists.{drop-drop, getD-drop}
+use Rattle.std.proofs.shelf.Lists.{drop-drop, getD-drop, length-drop}
+use Rattle.std.proofs.shelf.Sums.{folded-more}
+use Rattle.std.specs.shelf.Lists.{folded}
 use Rattle.ingest.specs.declared.record.Record.{Record}
 use Rattle.ingest.specs.declared.record.Record.the-variants.{Dense, Interleaved, Bits, Chunked}
 use Rattle.ingest.specs.Order.{recordAt}
@@ -38,3 +40,12 @@ module _ {A : Type 0} (leaf : ℕ → Record → A) (chunk : List A → A) where
         let back : (i + 1) + (from - (i + 1)) ≡ from = omega arith in
         yield-is (Chunked from count) e
         ∙ ap (λ l. chunk (take count l)) (drop-drop (from - (i + 1)) (i + 1) (yields leaf chunk 0 t) ∙ ap (λ n. drop n (yields leaf chunk 0 t)) back)
+
+-- a fold over the first parts of a run, and one part more
+pub fold-at : {A B : Type 0} (f : B → A → B) (b : B) (ys : List A) (from p : ℕ) (d : A) → from ≤ p → p < length ys → folded f b (take (p + 1 - from) (drop from ys)) ≡ f (folded f b (take (p - from) (drop from ys))) (getD ys p d)
+fold-at f b ys from p d low h =
+    let e : p + 1 - from ≡ (p - from) + 1 = omega arith in
+    let back : from + (p - from) ≡ p = omega arith in
+    ap (λ n. folded f b (take n (drop from ys))) e
+    ∙ folded-more f b (drop from ys) (p - from) d (omega (arith, length-drop from ys))
+    ∙ ap (λ x. f (folded f b (take (p - from) (drop from ys))) x) (getD-drop from ys (p - from) d ∙ ap (λ n. getD ys n d) back)

@@ -1,3 +1,4 @@
+pub mod Asked
 pub mod Faults
 pub mod Order
 pub mod Passes

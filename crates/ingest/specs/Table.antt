@@ -1,9 +1,7 @@
 -- What the records of a table yield: heights, passes, leaves and rows, built from the end, since parts come later. Assumes nothing.
 use mathlib.Core.Path.{_≡_}
-use mathlib.Core.Bool.{cond}
 use mathlib.Core.List.{List, [], _∷_}
-use Prim.Native.Nat.{ℕ, _+_, _-_, _^_, _≤_, _<_}
-use lib.Dec.{ltb}
+use Prim.Native.Nat.{ℕ, _+_, _-_, _≤_, _<_}
 use lib.ListN.{length, getD, take, drop}
 use Rattle.std.specs.shelf.Lists.{folded, joined, sum}
 use Rattle.ingest.specs.declared.record.ConversionPass.{ConversionPass}
@@ -11,7 +9,7 @@ use Rattle.ingest.specs.declared.record.ConversionPass.the-variants.{Copied, G
 use Rattle.ingest.specs.declared.record.Record.{Record}
 use Rattle.ingest.specs.declared.record.Record.the-variants.{Dense, Interleaved, Bits, Chunked}
 use Rattle.ingest.specs.Order.{recordAt}
-use Rattle.ingest.specs.Passes.{rankOf}
+use Rattle.ingest.specs.Passes.{higherOf}
 
 module _ {A : Type 0} (leaf : ℕ → Record → A) (chunk : List A → A) where
   -- what record i yields, where `later` is what each record after it yields: a chunk is made of its run
@@ -50,13 +48,9 @@ leafPass (Interleaved place len first stride height) = Gathered
 leafPass (Bits place words height) = Widened
 leafPass (Chunked from count) = Copied
 
--- the second of two passes where its rank is higher
-abbrev pub higher : ConversionPass → ConversionPass → ConversionPass
-higher p q = cond (ltb (rankOf p) (rankOf q)) q p
-
 -- the pass of the highest rank, Copied if there is none; no leaf's pass has a lower rank
 abbrev pub highest : List ConversionPass → ConversionPass
-highest passes = folded higher Copied passes
+highest passes = folded higherOf Copied passes
 
 unfoldable pub passesOf : List Record → List ConversionPass
 passesOf table = yields (λ _ r. leafPass r) highest 0 table

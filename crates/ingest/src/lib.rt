@@ -22,3 +22,5 @@ pub use record::RecordDebug;
 pub use record::RecordEq;
 pub use record::RecordPartialEq;
 pub use table::check_order;
+pub use table::height;
+pub use table::pass;

@@ -1,6 +1,6 @@
 // The records of a table: where the rows of a column lie in the lent blocks.
 ghost use mathlib.Core.Path.{_≡_};
-ghost use Rattle.ingest.specs.Passes.{rankOf};
+ghost use Rattle.ingest.specs.Passes.{rankOf, higherOf};
 
 // The most records that a table may have; they are numbered from 0.
 pub const MAX_RECORDS: usize = 4096;
@@ -56,6 +56,16 @@ impl ConversionPass {
             ConversionPass::Copied => 1,
             ConversionPass::Gathered => 2,
             ConversionPass::Widened => 3,
+        }
+    }
+    // The other pass where its rank is higher.
+    pub fn higher(self, other: ConversionPass) -> ConversionPass
+        ensures { λ r. ⌜ r ≡ higherOf self other ⌝ }
+    {
+        if self.rank() < other.rank() {
+            other
+        } else {
+            self
         }
     }
 }

@@ -2,12 +2,16 @@
 ghost use mathlib.Core.List.{[], _∷_};
 ghost use mathlib.Core.Path.{_≡_};
 ghost use Rattle.ring.specs.Checks.{verdict};
-ghost use Prim.Native.Nat.{_^_, _<_};
-ghost use lib.ListN.{length};
+ghost use Rattle.ring.specs.Bytes.{over};
+ghost use Rattle.std.specs.Results.{Cases};
+ghost use Rattle.ingest.specs.Asked.{heightChecks, passChecks, overflowChecks, heightsChecks};
+ghost use Prim.Native.Nat.{_^_, _<_, _≤_};
+ghost use lib.ListN.{length, take};
 ghost use Rattle.std.specs.Numbers.{Checked};
 ghost use Rattle.ingest.specs.Order.{orderCheck};
-ghost use Rattle.ingest.specs.Table.{Sound, heightOf};
+ghost use Rattle.ingest.specs.Table.{Sound, heightOf, heightsOf, passOf};
 use crate::fault::JaggedIngestError;
+use crate::record::ConversionPass;
 use crate::record::MAX_RECORDS;
 use crate::record::Record;
 
@@ -53,4 +57,59 @@ fn height_of(table: &[Record], record: usize) -> Option<usize>
             Some(total)
         }
     }
+}
+
+// A record's pass.
+fn pass_of(table: &[Record], record: usize) -> ConversionPass
+    requires sound { ⌜ Sound (now table) ⌝ }
+    requires within { ⌜ «record» < length (now table) ⌝ }
+    ensures { λ r. ⌜ r ≡ passOf (now (table .entry)) «record» ⌝ }
+{
+    match table[record] {
+        Record::Dense { .. } => ConversionPass::Copied,
+        Record::Interleaved { .. } => ConversionPass::Gathered,
+        Record::Bits { .. } => ConversionPass::Widened,
+        Record::Chunked { from, count } => {
+            let mut best = ConversionPass::Copied;
+            for part in from..from + count {
+                best = best.higher(pass_of(table, part));
+            }
+            best
+        }
+    }
+}
+
+// The number of rows of a column.
+pub fn height(table: &[Record], sources: usize, column: usize) -> Result<usize, JaggedIngestError>
+    ensures { λ r. ⌜ r ≡ verdict (heightChecks (now (table .entry)) sources column) (heightOf (now (table .entry)) column) ⌝ }
+{
+    if column >= sources {
+        return Err(JaggedIngestError::NoSuchColumn {
+            column,
+            columns: sources,
+        });
+    }
+    check_order(table, sources)?;
+    match height_of(table, column) {
+        Some(rows) => Ok(rows),
+        None => Err(JaggedIngestError::ColumnHeightOverflow { column }),
+    }
+}
+
+// The most expensive pass that a column needs.
+pub fn pass(
+    table: &[Record],
+    sources: usize,
+    column: usize,
+) -> Result<ConversionPass, JaggedIngestError>
+    ensures { λ r. ⌜ r ≡ verdict (passChecks (now (table .entry)) sources column) (passOf (now (table .entry)) column) ⌝ }
+{
+    if column >= sources {
+        return Err(JaggedIngestError::NoSuchColumn {
+            column,
+            columns: sources,
+        });
+    }
+    check_order(table, sources)?;
+    Ok(pass_of(table, column))
 }
