@@ -1,8 +1,14 @@
 // Reading a trace: record tables over the caller's memory, the dense vector that they are written to, and the witness.
+mod account;
 mod fault;
+mod leaf;
 mod record;
+mod report;
 mod table;
+mod witness;
 
+pub use account::IngestReport;
+pub use account::IngestReportDebug;
 pub use fault::JaggedIngestError;
 pub use fault::JaggedIngestErrorDebug;
 pub use fault::JaggedIngestErrorEq;
@@ -24,3 +30,6 @@ pub use record::RecordPartialEq;
 pub use table::check_order;
 pub use table::height;
 pub use table::pass;
+pub use witness::read_committed;
+pub use witness::witness_of_buffer;
+pub use witness::witness_of_vector;
