@@ -81,7 +81,7 @@ module _ (t : List Record) where
   order-passed sources e = sym (ap (λ w. answered w) e)
 
   -- a record that the scan passed
-  passed : (i next : ℕ) → i < length t → wrongFrom i next (drop i t) ≡ None → (i < next) × (i < maxRecords) × (beginsAt next (recordAt t i) ≡ true) × (wrongFrom (i + 1) (runEnd next (recordAt t i)) (drop (i + 1) t) ≡ None)
+  pub passed : (i next : ℕ) → i < length t → wrongFrom i next (drop i t) ≡ None → (i < next) × (i < maxRecords) × (beginsAt next (recordAt t i) ≡ true) × (wrongFrom (i + 1) (runEnd next (recordAt t i)) (drop (i + 1) t) ≡ None)
   unfolding bad
   passed i next h none =
       ⊎-elim
@@ -93,13 +93,13 @@ module _ (t : List Record) where
       (cases-bool (bad i next))
 
   -- runs do not shrink what they have reached
-  next-grows : (next : ℕ) (r : Record) → beginsAt next r ≡ true → next ≤ runEnd next r
+  pub next-grows : (next : ℕ) (r : Record) → beginsAt next r ≡ true → next ≤ runEnd next r
   next-grows next (Dense place height) e = omega arith
   next-grows next (Interleaved place len first stride height) e = omega arith
   next-grows next (Bits place words height) e = omega arith
   next-grows next (Chunked from count) e = omega (arith, eqb-true from next e)
 
-  begins-chunk : (next i from count : ℕ) → recordAt t i ≡ Chunked from count → beginsAt next (recordAt t i) ≡ true → (from ≡ next) × (runEnd next (recordAt t i) ≡ from + count)
+  pub begins-chunk : (next i from count : ℕ) → recordAt t i ≡ Chunked from count → beginsAt next (recordAt t i) ≡ true → (from ≡ next) × (runEnd next (recordAt t i) ≡ from + count)
   begins-chunk next i from count e b = (eqb-true from next (sym (ap (beginsAt next) e) ∙ b), ap (runEnd next) e)
 
   sound-from : (k i next : ℕ) → i + k ≡ length t → wrongFrom i next (drop i t) ≡ None → (next ≤ length t) × ((j from count : ℕ) → i ≤ j → j < length t → recordAt t j ≡ Chunked from count → (j < from) × (from + count ≤ length t))
@@ -119,6 +119,10 @@ module _ (t : List Record) where
       (omega (arith, p .0, b .0), omega (arith, later .0, b .1)))
       (λ other. later .1 j from count (omega arith) high chunk)
       (cases-eq j i)))
+
+  -- where runs have reached, the records are present
+  pub reached : (k i next : ℕ) → i + k ≡ length t → wrongFrom i next (drop i t) ≡ None → next ≤ length t
+  reached k i next e none = sound-from k i next e none .0
 
   -- a table in order keeps its parts after their chunks; its columns are present, and it is not too long
   pub sound : (sources : ℕ) → wrongRecord t sources ≡ None → Sound t

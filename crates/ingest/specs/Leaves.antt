@@ -3,12 +3,14 @@ use mathlib.Core.Bool.{_&&_}
 use mathlib.Core.List.{List, [], _∷_}
 use Prim.Native.Nat.{ℕ, min, _+_, _-_, _*_, _/_, _%_}
 use lib.Dec.{eqb, ltb}
+use lib.ListN.{getD}
 use Rattle.ring.specs.Checks.{Check, when}
 use Rattle.ring.specs.Coefficients.{told}
 use Rattle.ingest.specs.declared.fault.LeafError.{LeafError}
 use Rattle.ingest.specs.declared.fault.LeafError.the-variants.{ZeroStride, StrideOutOfRange, PackedWordsTooShort, PlaceOutsideBlock}
 use Rattle.ingest.specs.declared.record.Record.{Record}
 use Rattle.ingest.specs.declared.record.Record.the-variants.{Dense, Interleaved, Bits, Chunked}
+use Rattle.ingest.specs.Table.{yields, flat}
 
 -- the cells up to the last row of a leaf that has rows
 abbrev pub reach : ℕ → ℕ → ℕ → ℕ
@@ -40,3 +42,10 @@ leafChecks cells words column i (Interleaved place len first stride height) =
 leafChecks cells words column i (Bits place count height) =
     placeCheck column i words (place + count) ∷ packedChecks column count height
 leafChecks cells words column i (Chunked from count) = []
+
+-- of the leaves of each record, in the order of their rows
+unfoldable pub checksOf : ℕ → ℕ → ℕ → List Record → List (List (Check LeafError))
+checksOf cells words column table = yields (leafChecks cells words column) flat 0 table
+
+abbrev pub checksAt : ℕ → ℕ → ℕ → List Record → ℕ → List (Check LeafError)
+checksAt cells words column table i = getD (checksOf cells words column table) i []

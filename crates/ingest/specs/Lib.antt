@@ -1,8 +1,10 @@
 pub mod Asked
 pub mod Charges
 pub mod Faults
+pub mod Found
 pub mod Leaves
 pub mod Order
 pub mod Passes
+pub mod Rows
 pub mod Table
 pub mod Vector

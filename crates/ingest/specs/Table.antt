@@ -24,6 +24,10 @@ module _ {A : Type 0} (leaf : ℕ → Record → A) (chunk : List A → A) where
   yields i [] = []
   yields i (r ∷ rs) = yielded i r (yields (i + 1) rs) ∷ yields (i + 1) rs
 
+-- the parts one after the other
+abbrev pub flat : {A : Type 0} → List (List A) → List A
+flat parts = joined (λ part. part) parts
+
 -- every chunk's parts come after it, and are present
 abbrev pub Sound : List Record → Type 0
 Sound table = (i from count : ℕ) → i < length table → recordAt table i ≡ Chunked from count → (i < from) × (from + count ≤ length table)
@@ -60,7 +64,7 @@ passOf table i = getD (passesOf table) i Copied
 
 -- the numbers of the leaves, in the order of their rows
 unfoldable pub leavesOf : List Record → List (List ℕ)
-leavesOf table = yields (λ i _. i ∷ []) (joined (λ part. part)) 0 table
+leavesOf table = yields (λ i _. i ∷ []) flat 0 table
 
 abbrev pub leavesAt : List Record → ℕ → List ℕ
 leavesAt table i = getD (leavesOf table) i []

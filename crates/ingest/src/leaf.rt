@@ -1,7 +1,10 @@
 // What is checked of a leaf before its rows are read.
 ghost use mathlib.Core.Path.{_≡_};
 ghost use Rattle.ring.specs.Checks.{verdict};
-ghost use Rattle.ingest.specs.Leaves.{leafChecks, stridedChecks, packedChecks};
+ghost use Prim.Native.Nat.{_<_};
+ghost use lib.ListN.{length};
+ghost use Rattle.ingest.specs.Leaves.{leafChecks, stridedChecks, packedChecks, checksAt};
+ghost use Rattle.ingest.specs.Table.{Sound};
 use crate::fault::LeafError;
 use crate::record::Record;
 
@@ -96,4 +99,27 @@ fn check_packed(column: usize, available: usize, height: usize) -> Result<(), Le
         });
     }
     Ok(())
+}
+
+// Checks the leaves of a record, in the order of their rows.
+pub(crate) fn check_leaves(
+    table: &[Record],
+    record: usize,
+    column: usize,
+    cells: usize,
+    block_words: usize,
+) -> Result<(), LeafError>
+    requires sound { ⌜ Sound (now table) ⌝ }
+    requires within { ⌜ «record» < length (now table) ⌝ }
+    ensures { λ r. ⌜ r ≡ verdict (checksAt cells «block_words» column (now (table .entry)) «record») tt ⌝ }
+{
+    match table[record] {
+        Record::Chunked { from, count } => {
+            for part in from..from + count {
+                check_leaves(table, part, column, cells, block_words)?;
+            }
+            Ok(())
+        }
+        leaf => check_leaf(leaf, record, column, cells, block_words),
+    }
 }

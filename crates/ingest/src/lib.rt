@@ -1,11 +1,14 @@
 // Reading a trace: record tables over the caller's memory, the dense vector that they are written to, and the witness.
 mod account;
 mod fault;
+mod find;
 mod leaf;
+mod leaves;
 mod record;
 mod report;
 mod table;
 mod witness;
+mod write;
 
 pub use account::IngestReport;
 pub use account::IngestReportDebug;

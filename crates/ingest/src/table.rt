@@ -9,7 +9,7 @@ ghost use Prim.Native.Nat.{_^_, _<_, _≤_};
 ghost use lib.ListN.{length, take};
 ghost use Rattle.std.specs.Numbers.{Checked};
 ghost use Rattle.ingest.specs.Order.{orderCheck};
-ghost use Rattle.ingest.specs.Table.{Sound, heightOf, heightsOf, passOf};
+ghost use Rattle.ingest.specs.Table.{Sound, leafHeight, heightOf, heightsOf, passOf};
 use crate::fault::JaggedIngestError;
 use crate::record::ConversionPass;
 use crate::record::MAX_RECORDS;
@@ -37,6 +37,20 @@ pub fn check_order(table: &[Record], sources: usize) -> Result<(), JaggedIngestE
         return Err(JaggedIngestError::TableOutOfOrder { record });
     }
     Ok(())
+}
+
+impl Record {
+    // The height that a leaf tells; a chunk tells none.
+    pub(crate) fn own_height(self) -> usize
+        ensures { λ r. ⌜ r ≡ leafHeight self ⌝ }
+    {
+        match self {
+            Record::Dense { height, .. } => height,
+            Record::Interleaved { height, .. } => height,
+            Record::Bits { height, .. } => height,
+            Record::Chunked { .. } => 0,
+        }
+    }
 }
 
 // A record's height, or none if it is no machine index.
