@@ -1,7 +1,10 @@
 pub mod Checked
 pub mod Heights
 pub mod Orders
+pub mod Passings
+pub mod Placed
 pub mod Ranks
+pub mod Related
 pub mod Rooms
 pub mod Written
 pub mod Yields

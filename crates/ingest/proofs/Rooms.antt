@@ -5,13 +5,14 @@ use Prim.Native.Nat.{ℕ, zero, suc, _+_, _-_, _≤_, _<_}
 use native.Mathlib.Omega.{arith}
 use lib.ListN.{length, take, drop, getD}
 use lib.Seq.{take-add}
-use Rattle.std.proofs.shelf.Lists.{append-assoc, drop-drop, drop-more, length-append}
+use Rattle.std.proofs.shelf.Lists.{append-assoc, drop-drop, drop-more, length-append, take-take}
 use Rattle.std.specs.declared.option.Option.the-variants.{None}
 use Rattle.ingest.specs.declared.record.Record.{Record}
 use Rattle.ingest.specs.declared.record.Record.the-variants.{Dense, Interleaved, Bits, Chunked}
 use Rattle.ingest.specs.Order.{maxRecords, recordAt, runEnd, wrongFrom, wrongRecord}
 use Rattle.ingest.specs.Table.{flat, leavesOf, leavesAt}
 use Rattle.ingest.proofs.Orders.{passed, begins-chunk, few-records, next-grows, reached}
+use Rattle.ingest.proofs.Written.{joined-le, joined-take}
 use Rattle.ingest.proofs.Yields.{flat-append, flat-more, flat-split, length-yields, yield-leaf, yield-chunk}
 
 leaf-chunk : {a b c d : ℕ} → Dense a b ≡ Chunked c d → ⊥
@@ -94,3 +95,14 @@ module _ (t : List Record) where
   leaves-fit sources none =
       let e : sources - 0 ≡ sources = omega arith in
       omega (arith, few-records t sources none, room-from (length t) 0 sources (omega arith) (omega arith) none, ap (λ n. length (flat (take n (leavesOf t)))) e)
+
+  -- room for one column more
+  pub column-fits : (sources column : ℕ) → column < sources → sources ≤ length t → length (flat (take column (leavesOf t))) + length (leavesAt t column) ≤ length (flat (take sources (leavesOf t)))
+  column-fits sources column h present =
+      let more = joined-take (λ part. part) (leavesOf t) column [] (omega (arith, leaves-long)) in
+      let le = joined-le (λ part. part) (take sources (leavesOf t)) (column + 1) in
+      let short = ap (λ l. length (flat l)) (take-take (column + 1) sources (leavesOf t) (omega arith)) in
+      omega (arith, ap length more, length-append (flat (take column (leavesOf t))) (leavesAt t column))
+
+  pub columns-more : (column : ℕ) → column < length t → flat (take (column + 1) (leavesOf t)) ≡ flat (take column (leavesOf t)) ++ leavesAt t column
+  columns-more column h = joined-take (λ part. part) (leavesOf t) column [] (omega (arith, leaves-long))

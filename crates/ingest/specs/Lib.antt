@@ -5,6 +5,7 @@ pub mod Found
 pub mod Leaves
 pub mod Order
 pub mod Passes
+pub mod Reading
 pub mod Rows
 pub mod Table
 pub mod Vector

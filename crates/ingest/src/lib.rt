@@ -4,6 +4,7 @@ mod fault;
 mod find;
 mod leaf;
 mod leaves;
+mod read;
 mod record;
 mod report;
 mod table;

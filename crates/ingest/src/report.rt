@@ -8,6 +8,20 @@ use crate::account::IngestReport;
 use crate::record::ConversionPass;
 
 impl IngestReport {
+    // Nothing charged yet, and so many cells of padding.
+    pub(crate) fn padding(envelope: usize) -> IngestReport
+        ensures charges { λ r. ⌜ ((p : ConversionPass) → chargedOf r p ≡ 0) ⌝ }
+        ensures envelope { λ r. ⌜ r .envelope ≡ envelope ⌝ }
+    {
+        IngestReport {
+            shared: 0,
+            copied: 0,
+            gathered: 0,
+            widened: 0,
+            envelope,
+        }
+    }
+
     // The rows charged to a pass.
     pub fn charged(&self, pass: ConversionPass) -> usize
         ensures { λ r. ⌜ r ≡ chargedOf (now (self .entry)) pass ⌝ }
@@ -49,31 +63,17 @@ impl IngestReport {
     }
 
     // One more column, charged whole to its pass.
-    pub(crate) fn charge(self, pass: ConversionPass, rows: usize) -> IngestReport
-        requires { ⌜ self .shared + self .copied + self .gathered + self .widened + self .envelope + rows < 2 ^ 64 ⌝ }
-        ensures charges { λ r. ⌜ ((p : ConversionPass) → chargedOf r p ≡ chargedOf self p + charge p pass rows) ⌝ }
-        ensures envelope { λ r. ⌜ r .envelope ≡ self .envelope ⌝ }
-        ensures whole { λ r. ⌜ r .shared + r .copied + r .gathered + r .widened ≡ self .shared + self .copied + self .gathered + self .widened + rows ⌝ }
+    pub(crate) fn charge(&mut self, pass: ConversionPass, rows: usize)
+        requires { ⌜ now self .shared + now self .copied + now self .gathered + now self .widened + now self .envelope + rows < 2 ^ 64 ⌝ }
+        ensures charges { λ _. ⌜ ((p : ConversionPass) → chargedOf (now (self .exit)) p ≡ chargedOf (now (self .entry)) p + charge p pass rows) ⌝ }
+        ensures envelope { λ _. ⌜ now (self .exit) .envelope ≡ now (self .entry) .envelope ⌝ }
+        ensures whole { λ _. ⌜ now (self .exit) .shared + now (self .exit) .copied + now (self .exit) .gathered + now (self .exit) .widened ≡ now (self .entry) .shared + now (self .entry) .copied + now (self .entry) .gathered + now (self .entry) .widened + rows ⌝ }
     {
-        let IngestReport {
-            mut shared,
-            mut copied,
-            mut gathered,
-            mut widened,
-            envelope,
-        } = self;
         match pass {
-            ConversionPass::Shared => shared += rows,
-            ConversionPass::Copied => copied += rows,
-            ConversionPass::Gathered => gathered += rows,
-            ConversionPass::Widened => widened += rows,
-        }
-        IngestReport {
-            shared,
-            copied,
-            gathered,
-            widened,
-            envelope,
+            ConversionPass::Shared => self.shared += rows,
+            ConversionPass::Copied => self.copied += rows,
+            ConversionPass::Gathered => self.gathered += rows,
+            ConversionPass::Widened => self.widened += rows,
         }
     }
 }

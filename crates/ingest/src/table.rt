@@ -54,7 +54,7 @@ impl Record {
 }
 
 // A record's height, or none if it is no machine index.
-fn height_of(table: &[Record], record: usize) -> Option<usize>
+pub(crate) fn height_of(table: &[Record], record: usize) -> Option<usize>
     requires sound { ⌜ Sound (now table) ⌝ }
     requires within { ⌜ «record» < length (now table) ⌝ }
     ensures { λ r. ⌜ Checked r (heightOf (now (table .entry)) «record» < 2 ^ 64) (heightOf (now (table .entry)) «record») ⌝ }
@@ -74,7 +74,7 @@ fn height_of(table: &[Record], record: usize) -> Option<usize>
 }
 
 // A record's pass.
-fn pass_of(table: &[Record], record: usize) -> ConversionPass
+pub(crate) fn pass_of(table: &[Record], record: usize) -> ConversionPass
     requires sound { ⌜ Sound (now table) ⌝ }
     requires within { ⌜ «record» < length (now table) ⌝ }
     ensures { λ r. ⌜ r ≡ passOf (now (table .entry)) «record» ⌝ }
