@@ -11,19 +11,24 @@ use Rattle.std.specs.shelf.Lists.{sum}
 use Rattle.std.proofs.shelf.Lists.{append-nil, ext-getD, getD-take, length-append, length-take-le}
 use Rattle.std.proofs.shelf.Sums.{sumBy-cons}
 use Rattle.std.proofs.shelf.Tests.{and-cases, both-ways, eqb-true, lt-ltb, ltb-false, not-false}
+use Rattle.std.specs.Options.{isSome}
+use Rattle.std.specs.declared.option.Option.{Option}
+use Rattle.std.specs.declared.option.Option.the-variants.{Some, None}
 use Rattle.ring.specs.Checks.{Check, Passed}
 use Rattle.ring.specs.Operations.{Operations}
 use Rattle.ring.proofs.Verdicts.{passed-at, passed-left, passed-right}
-use Rattle.layout.specs.Shape.{Shape, columns, height, area}
+use Rattle.layout.specs.Shape.{Shape, columns, height, area, capacity}
 use Rattle.ingest.specs.declared.fault.LeafError.{LeafError}
 use Rattle.ingest.specs.declared.record.Record.{Record}
 use Rattle.ingest.specs.declared.record.Record.the-variants.{Dense, Interleaved, Bits, Chunked}
 use Rattle.ingest.specs.Leaves.{leafChecks, checksOf, checksAt, reach}
-use Rattle.ingest.specs.Order.{recordAt}
-use Rattle.ingest.specs.Reading.{oneChecks, columnsChecks, HeightsCountRows}
+use Rattle.ingest.specs.Order.{recordAt, wrongRecord}
+use Rattle.ingest.specs.Reading.{oneChecks, columnsChecks, readChecks, HeightsCountRows}
 use Rattle.ingest.specs.Rows.{leafRows, foundRows, rowsOf, Within}
 use Rattle.ingest.specs.Table.{flat, leafHeight, heightsOf, heightOf, leavesOf, leavesAt}
 use Rattle.ingest.proofs.Heights.{heights-long}
+use Rattle.ingest.specs.Vector.{bufferChecks}
+use Rattle.ingest.proofs.Orders.{sources-present}
 use Rattle.ingest.proofs.Passings.{down-passed}
 use Rattle.ingest.proofs.Related.{Both, both-at, both-take, related}
 use Rattle.ingest.proofs.Rooms.{columns-more}
@@ -136,3 +141,27 @@ module _ (cells words : ℕ) (t : List Record) where
 
     pub all-sit : Each Sits (flat (take (columns S) (leavesOf t)))
     all-sit = columns-sit (columns S) present (λ y h. leaves-sit y y (down-passed (checksAt cells words y t y) (one-passed y h .1 .1)))
+
+no-some : (w : Option ℕ) → isSome w ≡ false → w ≡ None
+no-some None e = refl
+no-some (Some n) e = absurd (both-ways true e refl)
+
+-- what an accepted reading tells
+pub record Accepted (S : Shape) (t : List Record) (sources cells words buffer : ℕ) : Type 0 where
+  pub same : sources ≡ columns S
+  pub none : wrongRecord t sources ≡ None
+  pub present : columns S ≤ length t
+  pub passed : Passed (columnsChecks S t cells words)
+  pub room : capacity S ≤ buffer
+
+pub accepted : (S : Shape) (t : List Record) (sources cells words buffer : ℕ) → Passed (readChecks S t sources cells words buffer) → Accepted S t sources cells words buffer
+accepted S t sources cells words buffer p =
+    let same = eqb-true sources (columns S) (not-false _ (p .0)) in
+    let none = no-some (wrongRecord t sources) (p .1 .0) in
+    record {
+      same = same;
+      none = none;
+      present = omega (arith, sources-present t sources none);
+      passed = passed-left (columnsChecks S t cells words) (bufferChecks S buffer) (p .1 .1);
+      room = ltb-false buffer (capacity S) (passed-right (columnsChecks S t cells words) (bufferChecks S buffer) (p .1 .1) .0);
+    }

@@ -22,6 +22,7 @@ pub use fault::LeafError;
 pub use fault::LeafErrorDebug;
 pub use fault::LeafErrorEq;
 pub use fault::LeafErrorPartialEq;
+pub use read::read_columns;
 pub use record::ConversionPass;
 pub use record::ConversionPassDebug;
 pub use record::ConversionPassEq;

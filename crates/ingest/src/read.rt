@@ -2,14 +2,18 @@
 ghost use mathlib.Core.List.{map};
 ghost use mathlib.Core.Path.{_≡_};
 ghost use Prim.Native.Nat.{_<_, _≤_};
-ghost use lib.ListN.{length, take, replicate};
+ghost use lib.ListN.{length, take, drop, replicate};
 ghost use Rattle.std.specs.declared.option.Option.the-variants.{None as Nothing};
+ghost use Rattle.std.specs.Results.{Cases};
+ghost use Rattle.std.specs.Vec.{made};
+ghost use Rattle.ring.specs.Bytes.{over};
 ghost use Rattle.ring.specs.Checks.{verdict};
 ghost use Rattle.layout.specs.Layout.{shape};
-ghost use Rattle.layout.specs.Shape.{columns as columnsOf};
+ghost use Rattle.layout.specs.Shape.{columns as columnsOf, capacity as capacityOf};
+ghost use Rattle.ingest.specs.Charges.{outcome};
 ghost use Rattle.ingest.specs.Found.{found};
 ghost use Rattle.ingest.specs.Order.{wrongRecord};
-ghost use Rattle.ingest.specs.Reading.{oneChecks, columnsChecks, readChecks, ColumnsReport};
+ghost use Rattle.ingest.specs.Reading.{oneChecks, columnsChecks, readChecks, assembled, ColumnsReport, HeightsCountRows};
 ghost use Rattle.ingest.specs.Table.{Sound, flat, leavesOf};
 use crate::account::IngestReport;
 use crate::fault::JaggedIngestError;
@@ -20,6 +24,7 @@ use crate::record::Record;
 use crate::table::check_order;
 use crate::table::height_of;
 use crate::table::pass_of;
+use crate::write::write_leaves;
 use layout::JaggedLayout;
 use ring::Ring;
 
@@ -131,4 +136,35 @@ fn clear<R: Ring>(out: &mut [R])
     for cell in out.iter_mut() {
         *cell = R::zero();
     }
+}
+
+// Reads columns into the buffer: their rows one after the other, then zero up to the capacity.
+pub fn read_columns<R: Ring>(
+    layout: &JaggedLayout,
+    table: &[Record],
+    sources: usize,
+    cells: &[R],
+    words: &[u64],
+    buffer: &mut [R],
+) -> Result<IngestReport, JaggedIngestError>
+    ensures answer { λ r. ⌜ outcome r ≡ verdict (readChecks (shape (now (layout .entry))) (now (table .entry)) sources (length (now (cells .entry))) (length (now (words .entry))) (length (now (buffer .entry)))) tt ⌝ }
+    ensures written { λ r. ⌜ Cases r (λ _. map (R·Ring .value) (now (buffer .exit)) ≡ over (assembled (R·Ring .ops) (shape (now (layout .entry))) (map (R·Ring .value) (now (cells .entry))) (now (words .entry)) (now (table .entry))) (map (R·Ring .value) (now (buffer .entry)))) (λ _. now (buffer .exit) ≡ now (buffer .entry)) ⌝ }
+    ensures kept { λ _. ⌜ drop (capacityOf (shape (now (layout .entry)))) (now (buffer .exit)) ≡ drop (capacityOf (shape (now (layout .entry)))) (now (buffer .entry)) ⌝ }
+    ensures report { λ r. ⌜ made r (ColumnsReport (shape (now (layout .entry))) (now (table .entry))) ⌝ }
+    ensures heights { λ _. ⌜ HeightsCountRows (R·Ring .ops) (map (R·Ring .value) (now (cells .entry))) (now (words .entry)) (now (table .entry)) ⌝ }
+{
+    check_columns(
+        layout,
+        table,
+        sources,
+        cells.len(),
+        words.len(),
+        buffer.len(),
+    )?;
+    let leaves = find_all(table, sources);
+    write_leaves(&leaves, table, cells, words, buffer);
+    let area = layout.area();
+    let capacity = layout.dense_capacity();
+    clear(&mut buffer[area..capacity]);
+    Ok(charge_columns(layout, table))
 }
