@@ -1,5 +1,6 @@
 pub mod Checked
 pub mod Heights
+pub mod Lowest
 pub mod Orders
 pub mod Passings
 pub mod Placed

@@ -1,11 +1,13 @@
 -- Which record of a table is out of order. Assumes nothing.
 use mathlib.Core.Path.{_≡_}
-use mathlib.Core.Bool.{Bool, true, not, cond, _||_}
+use mathlib.Core.Bool.{Bool, true, false, not, cond, _||_}
 use mathlib.Core.List.{List, [], _∷_}
 use mathlib.Core.Logic.{_⊎_}
 use Prim.Native.Nat.{ℕ, _+_, _≤_, _<_}
 use lib.Dec.{eqb, leb, ltb}
-use lib.ListN.{length, getD}
+use lib.ListN.{length, getD, take}
+use Rattle.std.specs.shelf.Lists.{folded}
+use Rattle.layout.specs.Powers.{Least}
 use Rattle.std.specs.Options.{isSome, valueOr}
 use Rattle.std.specs.declared.option.Option.{Option}
 use Rattle.std.specs.declared.option.Option.the-variants.{Some, None}
@@ -49,3 +51,46 @@ wrongRecord table sources = wrongFrom 0 sources table
 
 abbrev pub orderCheck : List Record → ℕ → Check JaggedIngestError
 orderCheck table sources = when (isSome (wrongRecord table sources)) (TableOutOfOrder (valueOr (wrongRecord table sources) 0))
+
+-- a chunk with record i in its run
+abbrev pub InRun : Record → ℕ → Type 0
+InRun (Dense place height) i = ⊥
+InRun (Interleaved place len first stride height) i = ⊥
+InRun (Bits place words height) i = ⊥
+InRun (Chunked from count) i = (from ≤ i) × (i < from + count)
+
+-- record i is in the run of a record that is present and stands before number k
+abbrev pub InRunBefore : List Record → ℕ → ℕ → Type 0
+InRunBefore table k i = (j : ℕ) × ((j < k) × (j < length table) × InRun (recordAt table j) i)
+
+-- where a chunk at record i has to begin its run: the end of the last run before it, or after the columns
+abbrev pub nextAt : List Record → ℕ → ℕ → ℕ
+nextAt table sources i = folded runEnd sources (take i table)
+
+-- a column, or in the run of a record that is present
+abbrev pub Wanted : List Record → ℕ → ℕ → Type 0
+Wanted table sources i = (i < sources) ⊎ InRunBefore table (length table) i
+
+-- present, and a chunk whose run begins wrongly
+abbrev pub BeginsWrongly : List Record → ℕ → ℕ → Type 0
+BeginsWrongly table sources i = (i < length table) × (beginsAt (nextAt table sources i) (recordAt table i) ≡ false)
+
+-- present, and neither a column nor in an earlier record's run
+abbrev pub Stray : List Record → ℕ → ℕ → Type 0
+Stray table sources i = (i < length table) × (sources ≤ i) × (InRunBefore table i i → ⊥)
+
+-- wanted but absent
+abbrev pub Absent : List Record → ℕ → ℕ → Type 0
+Absent table sources i = (length table ≤ i) × Wanted table sources i
+
+-- the first number that no record may have, present or wanted
+abbrev pub TooMany : List Record → ℕ → ℕ → Type 0
+TooMany table sources i = (i ≡ maxRecords) × ((i < length table) ⊎ Wanted table sources i)
+
+abbrev pub Wrong : List Record → ℕ → ℕ → Type 0
+Wrong table sources i = BeginsWrongly table sources i ⊎ (Stray table sources i ⊎ (Absent table sources i ⊎ TooMany table sources i))
+
+-- the lowest record that is wrong, or none where none is
+abbrev pub LowestWrong : List Record → ℕ → Option ℕ → Type 0
+LowestWrong table sources None = (i : ℕ) → Wrong table sources i → ⊥
+LowestWrong table sources (Some i) = Least (Wrong table sources) i

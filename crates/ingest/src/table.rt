@@ -8,7 +8,7 @@ ghost use Rattle.ingest.specs.Asked.{heightChecks, passChecks, overflowChecks,
 ghost use Prim.Native.Nat.{_^_, _<_, _≤_};
 ghost use lib.ListN.{length, take};
 ghost use Rattle.std.specs.Numbers.{Checked};
-ghost use Rattle.ingest.specs.Order.{orderCheck};
+ghost use Rattle.ingest.specs.Order.{orderCheck, wrongRecord, LowestWrong};
 ghost use Rattle.ingest.specs.Table.{Sound, leafHeight, heightOf, heightsOf, passOf};
 use crate::fault::JaggedIngestError;
 use crate::record::ConversionPass;
@@ -18,6 +18,7 @@ use crate::record::Record;
 // Refuses a table whose runs do not follow one another, or that lacks a record or has one too many.
 pub fn check_order(table: &[Record], sources: usize) -> Result<(), JaggedIngestError>
     ensures answer { λ r. ⌜ r ≡ verdict (orderCheck (now (table .entry)) sources ∷ []) tt ⌝ }
+    ensures lowest { λ _. ⌜ LowestWrong (now (table .entry)) sources (wrongRecord (now (table .entry)) sources) ⌝ }
 {
     // Where the next run begins; a sum of two indexes, so it can be past every index.
     let mut next = sources as u128;
