@@ -3,6 +3,7 @@ pub mod Heights
 pub mod Lowest
 pub mod Orders
 pub mod Passings
+pub mod Pieces
 pub mod Placed
 pub mod Ranks
 pub mod Related

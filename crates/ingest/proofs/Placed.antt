@@ -32,6 +32,7 @@ use Rattle.ingest.proofs.Orders.{sources-present}
 use Rattle.ingest.proofs.Passings.{down-passed}
 use Rattle.ingest.proofs.Related.{Both, both-at, both-take, related}
 use Rattle.ingest.proofs.Rooms.{columns-more}
+use Rattle.ingest.proofs.Yields.{length-yields}
 use Rattle.ingest.proofs.Written.{joined-append, leaf-rows-long}
 
 module _ (K : Operations) (cells : List (K .Value)) (words : List ℕ) (t : List Record) where
@@ -44,6 +45,10 @@ module _ (K : Operations) (cells : List (K .Value)) (words : List ℕ) (t : List
   rows-flat (x ∷ xs) [] b = absurd b
   rows-flat (x ∷ xs) (y ∷ ys) b =
       ap (λ l. l ++ flat xs) (b .0) ∙ ap (λ l. foundRows K cells words t y ++ l) (rows-flat xs ys (b .1)) ∙ sym (joined-append (λ n. leafRows K cells words (recordAt t n)) y (flat ys))
+
+  pub rows-long : length (rowsOf K cells words t) ≡ length t
+  unfolding rowsOf
+  rows-long = length-yields (λ _ r. leafRows K cells words r) flat 0 t
 
   -- the rows of the first columns are those of their leaves
   pub rows-by-leaves : (s : ℕ) → flat (take s (rowsOf K cells words t)) ≡ foundRows K cells words t (flat (take s (leavesOf t)))
@@ -142,7 +147,7 @@ module _ (cells words : ℕ) (t : List Record) where
     pub all-sit : Each Sits (flat (take (columns S) (leavesOf t)))
     all-sit = columns-sit (columns S) present (λ y h. leaves-sit y y (down-passed (checksAt cells words y t y) (one-passed y h .1 .1)))
 
-no-some : (w : Option ℕ) → isSome w ≡ false → w ≡ None
+pub no-some : (w : Option ℕ) → isSome w ≡ false → w ≡ None
 no-some None e = refl
 no-some (Some n) e = absurd (both-ways true e refl)
 

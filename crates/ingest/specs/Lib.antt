@@ -5,6 +5,7 @@ pub mod Found
 pub mod Leaves
 pub mod Order
 pub mod Passes
+pub mod Piece
 pub mod Reading
 pub mod Rows
 pub mod Table

@@ -104,7 +104,7 @@ fn check_columns(
 }
 
 // Finds the leaves of all columns.
-fn find_all(table: &[Record], sources: usize) -> Leaves
+pub(crate) fn find_all(table: &[Record], sources: usize) -> Leaves
     requires { ⌜ wrongRecord (now table) sources ≡ Nothing ⌝ }
     ensures { λ r. ⌜ found r ≡ flat (take sources (leavesOf (now (table .entry)))) ⌝ }
 {
