@@ -1,5 +1,4 @@
 pub mod Checked
-pub mod Heights
 pub mod Lowest
 pub mod Orders
 pub mod Passings
@@ -8,5 +7,6 @@ pub mod Placed
 pub mod Ranks
 pub mod Related
 pub mod Rooms
+pub mod Tall
 pub mod Written
 pub mod Yields

@@ -26,7 +26,7 @@ use Rattle.ingest.specs.Order.{recordAt, wrongRecord}
 use Rattle.ingest.specs.Reading.{oneChecks, columnsChecks, readChecks, HeightsCountRows}
 use Rattle.ingest.specs.Rows.{leafRows, foundRows, rowsOf, Within}
 use Rattle.ingest.specs.Table.{flat, leafHeight, heightsOf, heightOf, leavesOf, leavesAt}
-use Rattle.ingest.proofs.Heights.{heights-long}
+use Rattle.ingest.proofs.Tall.{heights-long}
 use Rattle.ingest.specs.Vector.{bufferChecks}
 use Rattle.ingest.proofs.Orders.{sources-present}
 use Rattle.ingest.proofs.Passings.{down-passed}

@@ -37,6 +37,7 @@ pub use record::RecordEq;
 pub use record::RecordPartialEq;
 pub use table::check_order;
 pub use table::height;
+pub use table::heights;
 pub use table::pass;
 pub use witness::read_committed;
 pub use witness::witness_of_buffer;

@@ -5,7 +5,7 @@ ghost use Rattle.ring.specs.Checks.{verdict};
 ghost use Rattle.ring.specs.Bytes.{over};
 ghost use Rattle.std.specs.Results.{Cases};
 ghost use Rattle.ingest.specs.Asked.{heightChecks, passChecks, overflowChecks, heightsChecks};
-ghost use Prim.Native.Nat.{_^_, _<_, _≤_};
+ghost use Prim.Native.Nat.{ℕ, _^_, _<_, _≤_};
 ghost use lib.ListN.{length, take};
 ghost use Rattle.std.specs.Numbers.{Checked};
 ghost use Rattle.ingest.specs.Order.{orderCheck, wrongRecord, LowestWrong};
@@ -127,4 +127,52 @@ pub fn pass(
     }
     check_order(table, sources)?;
     Ok(pass_of(table, column))
+}
+
+// Refuses a column whose height is no machine index.
+fn check_heights(table: &[Record], sources: usize) -> Result<(), JaggedIngestError>
+    requires sound { ⌜ Sound (now table) ⌝ }
+    requires present { ⌜ sources ≤ length (now table) ⌝ }
+    ensures { λ r. ⌜ r ≡ verdict (overflowChecks (now (table .entry)) sources) tt ⌝ }
+{
+    for column in 0..sources {
+        match height_of(table, column) {
+            Some(_) => {}
+            None => return Err(JaggedIngestError::ColumnHeightOverflow { column }),
+        }
+    }
+    Ok(())
+}
+
+fn put_heights(table: &[Record], sources: usize, out: &mut [usize])
+    requires sound { ⌜ Sound (now table) ⌝ }
+    requires present { ⌜ sources ≤ length (now table) ⌝ }
+    requires fit { ⌜ ((y : ℕ) → y < sources → heightOf (now table) y < 2 ^ 64) ⌝ }
+    requires room { ⌜ sources ≤ length (now out) ⌝ }
+    ensures { λ _. ⌜ now (out .exit) ≡ over (take sources (heightsOf (now (table .entry)))) (now (out .entry)) ⌝ }
+{
+    for column in 0..sources {
+        out[column] = height_of(table, column).unwrap();
+    }
+}
+
+// Writes the heights of all columns to the front of the slice, and tells how many there are.
+pub fn heights(
+    table: &[Record],
+    sources: usize,
+    out: &mut [usize],
+) -> Result<usize, JaggedIngestError>
+    ensures answer { λ r. ⌜ r ≡ verdict (heightsChecks (now (table .entry)) sources (length (now (out .entry)))) sources ⌝ }
+    ensures written { λ r. ⌜ Cases r (λ _. now (out .exit) ≡ over (take sources (heightsOf (now (table .entry)))) (now (out .entry))) (λ _. now (out .exit) ≡ now (out .entry)) ⌝ }
+{
+    check_order(table, sources)?;
+    check_heights(table, sources)?;
+    if out.len() < sources {
+        return Err(JaggedIngestError::BufferTooShort {
+            required: sources,
+            available: out.len(),
+        });
+    }
+    put_heights(table, sources, out);
+    Ok(sources)
 }

@@ -6,7 +6,7 @@ use Rattle.std.specs.Numbers.{Checked}
 use Rattle.std.specs.shelf.Lists.{sum}
 use Rattle.ingest.specs.Order.{recordAt}
 use Rattle.ingest.specs.Table.{heightsOf, heightOf}
-use Rattle.ingest.proofs.Heights.{height-dense, height-interleaved, height-bits, height-chunk, run-at, part-le}
+use Rattle.ingest.proofs.Tall.{height-dense, height-interleaved, height-bits, height-chunk, run-at, part-le}
 use Rattle.ingest.proofs.table.+height_of.Needs as need
 
 pub add-part·end : need.add-part·end
