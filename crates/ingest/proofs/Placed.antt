@@ -2,13 +2,13 @@
 use mathlib.Core.Path.{_≡_, refl, sym, ap, subst, _∙_}
 use mathlib.Core.Bool.{Bool, true, false, _&&_}
 use mathlib.Core.List.{List, [], _∷_, _++_}
-use Prim.Native.Nat.{ℕ, zero, suc, _+_, _≤_, _<_}
+use Prim.Native.Nat.{ℕ, zero, suc, _+_, _-_, _≤_, _<_}
 use native.Mathlib.Numerals.{add-one}
 use native.Mathlib.Omega.{arith}
 use lib.Dec.{ltb}
-use lib.ListN.{length, getD, take, drop}
+use lib.ListN.{length, getD, take, drop, replicate}
 use Rattle.std.specs.shelf.Lists.{sum}
-use Rattle.std.proofs.shelf.Lists.{append-nil, ext-getD, getD-take, length-append, length-take-le}
+use Rattle.std.proofs.shelf.Lists.{append-assoc, append-nil, ext-getD, getD-append-left, getD-append-right, getD-take, length-append, length-take-le, take-take}
 use Rattle.std.proofs.shelf.Sums.{sumBy-cons}
 use Rattle.std.proofs.shelf.Tests.{and-cases, both-ways, eqb-true, lt-ltb, ltb-false, not-false}
 use Rattle.std.specs.Options.{isSome}
@@ -17,13 +17,15 @@ use Rattle.std.specs.declared.option.Option.the-variants.{Some, None}
 use Rattle.ring.specs.Checks.{Check, Passed}
 use Rattle.ring.specs.Operations.{Operations}
 use Rattle.ring.proofs.Verdicts.{passed-at, passed-left, passed-right}
-use Rattle.layout.specs.Shape.{Shape, columns, height, area, capacity}
+use Rattle.layout.specs.Shape.{Shape, columns, height, start, area, capacity}
+use Rattle.layout.proofs.Shapes.{area-start}
+use Rattle.ring.specs.Bytes.{over}
 use Rattle.ingest.specs.declared.fault.LeafError.{LeafError}
 use Rattle.ingest.specs.declared.record.Record.{Record}
 use Rattle.ingest.specs.declared.record.Record.the-variants.{Dense, Interleaved, Bits, Chunked}
 use Rattle.ingest.specs.Leaves.{leafChecks, checksOf, checksAt, reach}
 use Rattle.ingest.specs.Order.{recordAt, wrongRecord}
-use Rattle.ingest.specs.Reading.{oneChecks, columnsChecks, readChecks, HeightsCountRows}
+use Rattle.ingest.specs.Reading.{oneChecks, columnsChecks, readChecks, assembled, RowsPlaced, HeightsCountRows}
 use Rattle.ingest.specs.Rows.{leafRows, foundRows, rowsOf, Within}
 use Rattle.ingest.specs.Table.{flat, leafHeight, heightsOf, heightOf, leavesOf, leavesAt}
 use Rattle.ingest.proofs.Tall.{heights-long}
@@ -32,8 +34,11 @@ use Rattle.ingest.proofs.Orders.{sources-present}
 use Rattle.ingest.proofs.Passings.{down-passed}
 use Rattle.ingest.proofs.Related.{Both, both-at, both-take, related}
 use Rattle.ingest.proofs.Rooms.{columns-more}
-use Rattle.ingest.proofs.Yields.{length-yields}
+use Rattle.ingest.proofs.Yields.{flat-split, length-yields}
 use Rattle.ingest.proofs.Written.{joined-append, leaf-rows-long}
+
+regroup : {A : Type 0} (a b c d e : List A) → ((a ++ (b ++ c)) ++ d) ++ e ≡ a ++ (b ++ (c ++ (d ++ e)))
+regroup a b c d e = simp append-assoc
 
 module _ (K : Operations) (cells : List (K .Value)) (words : List ℕ) (t : List Record) where
   abbrev Rows : List (K .Value) → List ℕ → Type 0
@@ -74,15 +79,38 @@ module _ (K : Operations) (cells : List (K .Value)) (words : List ℕ) (t : List
   pub heights-count : HeightsCountRows K cells words t
   heights-count i = both-at Tall [] 0 refl i (rowsOf K cells words t) (heightsOf t) all-tall
 
-  -- columns of the layout's heights fill its area
-  pub rows-fill : (S : Shape) → columns S ≤ length t → ((y : ℕ) → y < columns S → heightOf t y ≡ height S y) → length (flat (take (columns S) (rowsOf K cells words t))) ≡ area S
-  rows-fill S present same =
-      tall-flat (take (columns S) (rowsOf K cells words t)) (take (columns S) (heightsOf t)) (both-take Tall (columns S) (rowsOf K cells words t) (heightsOf t) all-tall)
-      ∙ ap sum
-      (ext-getD 0 (take (columns S) (heightsOf t)) (S .heights) (length-take-le (columns S) (heightsOf t) (omega (arith, heights-long t)))
-      (λ y h.
-      let below : y < columns S = omega (arith, length-take-le (columns S) (heightsOf t) (omega (arith, heights-long t))) in
-      getD-take (columns S) (heightsOf t) y 0 below ∙ same y below))
+  module _ (S : Shape) (present : columns S ≤ length t) (same : (y : ℕ) → y < columns S → heightOf t y ≡ height S y) where
+    heights-are : take (columns S) (heightsOf t) ≡ S .heights
+    heights-are =
+        let long = length-take-le (columns S) (heightsOf t) (omega (arith, heights-long t)) in
+        ext-getD 0 (take (columns S) (heightsOf t)) (S .heights) long
+        (λ y h. let below : y < columns S = omega arith in getD-take (columns S) (heightsOf t) y 0 below ∙ same y below)
+
+    -- the rows of the columns before y fill the vector up to its start
+    front-long : (y : ℕ) → y ≤ columns S → length (flat (take y (rowsOf K cells words t))) ≡ start S y
+    front-long y h =
+        tall-flat (take y (rowsOf K cells words t)) (take y (heightsOf t)) (both-take Tall y (rowsOf K cells words t) (heightsOf t) all-tall)
+        ∙ ap sum (sym (take-take y (columns S) (heightsOf t) h) ∙ ap (take y) heights-are)
+
+    -- columns of the layout's heights fill its area
+    pub rows-fill : length (flat (take (columns S) (rowsOf K cells words t))) ≡ area S
+    rows-fill = front-long (columns S) (omega arith) ∙ area-start S
+
+    pub rows-placed : (old : List (K .Value)) → RowsPlaced K S cells words t (over (assembled K S cells words t) old)
+    rows-placed old y k h l =
+        let ys = rowsOf K cells words t in
+        let split = flat-split ys 0 (columns S) y (omega arith) (omega arith) (omega (arith, rows-long)) in
+        let e : y - 0 ≡ y = omega arith in
+        let whole = split .1 ∙ ap (λ n. flat (take n ys) ++ (getD ys y [] ++ split .0)) e in
+        let pad = replicate (capacity S - area S) (K .nought) in
+        let tail = drop (length (assembled K S cells words t)) old in
+        let joined-up = ap (λ l. (l ++ pad) ++ tail) whole ∙ regroup (flat (take y ys)) (getD ys y []) (split .0) pad tail in
+        let back : (start S y + k) - start S y ≡ k = omega arith in
+        let tall = heights-count y in
+        ap (λ l. getD l (start S y + k) (K .nought)) joined-up
+        ∙ getD-append-right (flat (take y ys)) (getD ys y [] ++ (split .0 ++ (pad ++ tail))) (start S y) (start S y + k) (K .nought) (front-long y (omega arith)) (omega arith)
+        ∙ ap (λ n. getD (getD ys y [] ++ (split .0 ++ (pad ++ tail))) n (K .nought)) back
+        ∙ getD-append-left (getD ys y []) (split .0 ++ (pad ++ tail)) (K .nought) k (omega (arith, tall, same y h))
 
 second : (x y : Bool) → x ≡ true → (x && y) ≡ false → y ≡ false
 second true y e h = h

@@ -2,14 +2,14 @@
 use mathlib.Core.Path.{_≡_}
 use mathlib.Core.Bool.{not}
 use mathlib.Core.List.{List, [], _∷_, _++_, map}
-use Prim.Native.Nat.{ℕ, _-_}
+use Prim.Native.Nat.{ℕ, _+_, _-_, _<_}
 use lib.Dec.{eqb}
-use lib.ListN.{length, take, replicate}
+use lib.ListN.{length, getD, take, replicate}
 use Rattle.std.specs.Iters.{counting}
 use Rattle.std.specs.shelf.Lists.{joined, sum}
 use Rattle.ring.specs.Checks.{Check, when}
 use Rattle.ring.specs.Operations.{Operations}
-use Rattle.layout.specs.Shape.{Shape, columns, height, area, capacity}
+use Rattle.layout.specs.Shape.{Shape, columns, height, start, area, capacity}
 use Rattle.ingest.specs.declared.account.IngestReport.{IngestReport}
 use Rattle.ingest.specs.declared.fault.JaggedIngestError.{JaggedIngestError}
 use Rattle.ingest.specs.declared.fault.JaggedIngestError.the-variants.{ColumnCountMismatch, ColumnHeightMismatch}
@@ -50,6 +50,11 @@ readChecks S table sources cells words buffer =
 -- the dense vector: the rows of each column in turn, then zero up to the capacity
 abbrev pub assembled : (K : Operations) → Shape → List (K .Value) → List ℕ → List Record → List (K .Value)
 assembled K S cells words table = flat (take (columns S) (rowsOf K cells words table)) ++ replicate (capacity S - area S) (K .nought)
+
+-- row k of column y lies at the start of the column, plus k
+abbrev pub RowsPlaced : (K : Operations) → Shape → List (K .Value) → List ℕ → List Record → List (K .Value) → Type 0
+RowsPlaced K S cells words table out =
+    (y k : ℕ) → y < columns S → k < height S y → getD out (start S y + k) (K .nought) ≡ getD (rowsAt K cells words table y) k (K .nought)
 
 -- each column is charged whole to its pass, and the padding is what the capacity has past the area
 abbrev pub ColumnsReport : Shape → List Record → IngestReport → Type 0

@@ -13,7 +13,7 @@ ghost use Rattle.layout.specs.Shape.{columns as columnsOf, capacity as capacity
 ghost use Rattle.ingest.specs.Charges.{outcome};
 ghost use Rattle.ingest.specs.Found.{found};
 ghost use Rattle.ingest.specs.Order.{wrongRecord};
-ghost use Rattle.ingest.specs.Reading.{oneChecks, columnsChecks, readChecks, assembled, ColumnsReport, HeightsCountRows};
+ghost use Rattle.ingest.specs.Reading.{oneChecks, columnsChecks, readChecks, assembled, RowsPlaced, ColumnsReport, HeightsCountRows};
 ghost use Rattle.ingest.specs.Table.{Sound, flat, leavesOf};
 use crate::account::IngestReport;
 use crate::fault::JaggedIngestError;
@@ -150,6 +150,7 @@ pub fn read_columns<R: Ring>(
     ensures answer { λ r. ⌜ outcome r ≡ verdict (readChecks (shape (now (layout .entry))) (now (table .entry)) sources (length (now (cells .entry))) (length (now (words .entry))) (length (now (buffer .entry)))) tt ⌝ }
     ensures written { λ r. ⌜ Cases r (λ _. map (R·Ring .value) (now (buffer .exit)) ≡ over (assembled (R·Ring .ops) (shape (now (layout .entry))) (map (R·Ring .value) (now (cells .entry))) (now (words .entry)) (now (table .entry))) (map (R·Ring .value) (now (buffer .entry)))) (λ _. now (buffer .exit) ≡ now (buffer .entry)) ⌝ }
     ensures kept { λ _. ⌜ drop (capacityOf (shape (now (layout .entry)))) (now (buffer .exit)) ≡ drop (capacityOf (shape (now (layout .entry)))) (now (buffer .entry)) ⌝ }
+    ensures placed { λ r. ⌜ made r (λ _. RowsPlaced (R·Ring .ops) (shape (now (layout .entry))) (map (R·Ring .value) (now (cells .entry))) (now (words .entry)) (now (table .entry)) (map (R·Ring .value) (now (buffer .exit)))) ⌝ }
     ensures report { λ r. ⌜ made r (ColumnsReport (shape (now (layout .entry))) (now (table .entry))) ⌝ }
     ensures heights { λ _. ⌜ HeightsCountRows (R·Ring .ops) (map (R·Ring .value) (now (cells .entry))) (now (words .entry)) (now (table .entry)) ⌝ }
 {
