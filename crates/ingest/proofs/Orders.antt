@@ -110,15 +110,17 @@ module _ (t : List Record) where
   sound-from (suc k) i next e none =
       let p = passed i next (omega arith) none in
       let later = sound-from k (i + 1) (runEnd next (recordAt t i)) (omega arith) (p .3) in
-      let grows = next-grows next (recordAt t i) (p .2) in
-      (omega (arith, later .0), (λ j from count low high chunk.
-      ⊎-elim
-      (λ same.
-      let at-i : recordAt t i ≡ Chunked from count = subst (λ n. recordAt t n ≡ Chunked from count) same chunk in
-      let b = begins-chunk next i from count at-i (p .2) in
-      (omega (arith, p .0, b .0), omega (arith, later .0, b .1)))
-      (λ other. later .1 j from count (omega arith) high chunk)
-      (cases-eq j i)))
+      let grows = next-grows next (recordAt t i) (p .2) in (
+        omega (arith, later .0),
+        (λ j from count low high chunk.
+            ⊎-elim
+            (λ same.
+            let at-i : recordAt t i ≡ Chunked from count = subst (λ n. recordAt t n ≡ Chunked from count) same chunk in
+            let b = begins-chunk next i from count at-i (p .2) in
+            (omega (arith, p .0, b .0), omega (arith, later .0, b .1)))
+            (λ other. later .1 j from count (omega arith) high chunk)
+            (cases-eq j i)),
+      )
 
   -- where runs have reached, the records are present
   pub reached : (k i next : ℕ) → i + k ≡ length t → wrongFrom i next (drop i t) ≡ None → next ≤ length t

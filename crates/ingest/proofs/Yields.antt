@@ -82,12 +82,11 @@ pub flat-split : {A : Type 0} (ys : List (List A)) (from count p : ℕ) → from
 flat-split ys from count p low high present =
     let zs = take count (drop from ys) in
     let back : from + (p - from) ≡ p = omega arith in
-    let long : length zs ≡ count = length-take-le count (drop from ys) (omega (arith, length-drop from ys)) in
-    (
+    let long : length zs ≡ count = length-take-le count (drop from ys) (omega (arith, length-drop from ys)) in (
       flat (drop (p - from + 1) zs),
       split-at zs (p - from) (omega arith)
-      ∙ ap (λ l. flat l ++ (getD zs (p - from) [] ++ flat (drop (p - from + 1) zs))) (take-take (p - from) count (drop from ys) (omega arith))
-      ∙ ap (λ x. flat (take (p - from) (drop from ys)) ++ (x ++ flat (drop (p - from + 1) zs))) (getD-take count (drop from ys) (p - from) [] (omega arith) ∙ getD-drop from ys (p - from) [] ∙ ap (λ n. getD ys n []) back),
+          ∙ ap (λ l. flat l ++ (getD zs (p - from) [] ++ flat (drop (p - from + 1) zs))) (take-take (p - from) count (drop from ys) (omega arith))
+          ∙ ap (λ x. flat (take (p - from) (drop from ys)) ++ (x ++ flat (drop (p - from + 1) zs))) (getD-take count (drop from ys) (p - from) [] (omega arith) ∙ getD-drop from ys (p - from) [] ∙ ap (λ n. getD ys n []) back),
     )
 
 pub flat-append : {A : Type 0} (xs ys : List (List A)) → flat (xs ++ ys) ≡ flat xs ++ flat ys

@@ -16,13 +16,7 @@ use crate::record::Record;
 use ring::Ring;
 
 // Row r is the cell at first + r × stride, counted from the place.
-fn write_strided<R: Ring>(
-    cells: &[R],
-    place: usize,
-    first: usize,
-    stride: usize,
-    out: &mut [R],
-)
+fn write_strided<R: Ring>(cells: &[R], place: usize, first: usize, stride: usize, out: &mut [R])
     requires { ⌜ (0 < length (now out) → place + (first + (length (now out) - 1) * stride) < length (now cells)) ⌝ }
     ensures { λ _. ⌜ ((k : ℕ) → k < length (now (out .entry)) → getD (map (R·Ring .value) (now (out .exit))) k (R·Ring .ops .nought) ≡ getD (map (R·Ring .value) (now (cells .entry))) (place + (first + k * stride)) (R·Ring .ops .nought)) ⌝ }
 {

@@ -44,14 +44,13 @@ loop-column-again c =
     let law = all-lawful (c .args .layout .now) in
     let same = expected-is S i (c .unwrap-rows .result) (omega arith) (sym (c .column-height .ensures) ∙ c .unwrap-rows .ensures) in
     let more = start-more S i (omega arith) in
-    let le : start S (i + 1) ≤ area S = sumBy-take-le (λ x. x) (S .heights) (i + 1) in
-    (
+    let le : start S (i + 1) ≤ area S = sumBy-take-le (λ x. x) (S .heights) (i + 1) in (
       (λ p.
-      c .charge .ensures .charges p
-      ∙ ap (λ n. n + charge p (c .pass-of .result) (c .unwrap-rows .result)) (c .loop-column .inv .0 p)
-      ∙ ap (λ q. sum (map (λ y. charge p (passOf t y) (height S y)) (counting 0 i)) + charge p q (c .unwrap-rows .result)) (c .pass-of .ensures)
-      ∙ ap (λ n. sum (map (λ y. charge p (passOf t y) (height S y)) (counting 0 i)) + charge p (passOf t i) n) same
-      ∙ sym (sumBy-map-counting-more (λ x. x) (λ y. charge p (passOf t y) (height S y)) 0 i i (omega arith))),
+          c .charge .ensures .charges p
+          ∙ ap (λ n. n + charge p (c .pass-of .result) (c .unwrap-rows .result)) (c .loop-column .inv .0 p)
+          ∙ ap (λ q. sum (map (λ y. charge p (passOf t y) (height S y)) (counting 0 i)) + charge p q (c .unwrap-rows .result)) (c .pass-of .ensures)
+          ∙ ap (λ n. sum (map (λ y. charge p (passOf t y) (height S y)) (counting 0 i)) + charge p (passOf t i) n) same
+          ∙ sym (sumBy-map-counting-more (λ x. x) (λ y. charge p (passOf t y) (height S y)) 0 i i (omega arith))),
       omega (arith, c .charge .ensures .whole, c .loop-column .inv .1),
       c .charge .ensures .envelope ∙ c .loop-column .inv .2,
     )

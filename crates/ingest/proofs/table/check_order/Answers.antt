@@ -31,12 +31,12 @@ loop-record-again c =
     let next = c .loop-record .next in
     let more = wrong-later t i next (c .loop-record-test .taken) (c .if-record-next .left) (c .if-record-ge-MAX-RECORDS .left) in
     elim (c .match-entry .came) [
-      in-Chunked·else-from-next w ↦
-      let begins = ap (beginsAt next) (w .in-Chunked .is) ∙ eq-eqb (w .in-Chunked .from) next (w .if-from-next .left) in
-      ap (λ n. wrongFrom (i + 1) n (drop (i + 1) t)) (w .next-is ∙ sym (ap (runEnd next) (w .in-Chunked .is))) ∙ sym (more begins) ∙ c .loop-record .inv
+      | in-Chunked·else-from-next w ↦
+          let begins = ap (beginsAt next) (w .in-Chunked .is) ∙ eq-eqb (w .in-Chunked .from) next (w .if-from-next .left) in
+          ap (λ n. wrongFrom (i + 1) n (drop (i + 1) t)) (w .next-is ∙ sym (ap (runEnd next) (w .in-Chunked .is))) ∙ sym (more begins) ∙ c .loop-record .inv
       | in-rest w ↦
-      let leaf = leaf-begins next (recordAt t i) (w .in-rest .not-Chunked) in
-      ap (λ n. wrongFrom (i + 1) n (drop (i + 1) t)) (w .next-is ∙ sym (leaf .1)) ∙ sym (more (leaf .0)) ∙ c .loop-record .inv
+          let leaf = leaf-begins next (recordAt t i) (w .in-rest .not-Chunked) in
+          ap (λ n. wrongFrom (i + 1) n (drop (i + 1) t)) (w .next-is ∙ sym (leaf .1)) ∙ sym (more (leaf .0)) ∙ c .loop-record .inv
     ]
 
 pub returns-then-record-next-2 : need.returns-then-record-next-2

@@ -124,11 +124,10 @@ loop-k-again g c =
     let e : (c .loop-k .at + rows) - c .loop-k .at ≡ rows = omega arith in
     let more = found-more (g .R·Ring .ops) cells words t (found ls) k n (omega arith) same in
     let tall = leaf-rows-long (g .R·Ring .ops) cells words t (recordAt t n) in
-    let wide : length (c .write-leaf .last .out) ≡ rows = sym (length-map (c .write-leaf .last .out) (g .R·Ring .value)) ∙ ap length (c .write-leaf .ensures) ∙ tall ∙ sym (c .own-height-rows .ensures) in
-    (
+    let wide : length (c .write-leaf .last .out) ≡ rows = sym (length-map (c .write-leaf .last .out) (g .R·Ring .value)) ∙ ap length (c .write-leaf .ensures) ∙ tall ∙ sym (c .own-height-rows .ensures) in (
       omega (arith, c .loop-k .inv .0, ap length more, length-append before here, tall, c .own-height-rows .ensures),
       leaf-more (g .R·Ring .value) (c .loop-k .buffer) (c .write-leaf .last .out) before here (map (g .R·Ring .value) (c .args .buffer .now)) (c .loop-k .at) _ (c .loop-k .inv .1) (c .write-leaf .ensures) (c .loop-k .inv .0) (e ∙ c .own-height-rows .ensures ∙ sym tall)
-      ∙ ap (λ l. over l (map (g .R·Ring .value) (c .args .buffer .now))) (sym more),
+          ∙ ap (λ l. over l (map (g .R·Ring .value) (c .args .buffer .now))) (sym more),
       (λ m h. drop-putMid (c .loop-k .at) _ (c .loop-k .buffer) (c .write-leaf .last .out) m (omega arith) (omega arith) (wide ∙ sym e) ∙ c .loop-k .inv .2 m (omega arith)),
     )
 
