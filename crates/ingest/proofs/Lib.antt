@@ -1,0 +1,12 @@
+pub mod Checked
+pub mod Lowest
+pub mod Orders
+pub mod Passings
+pub mod Pieces
+pub mod Placed
+pub mod Ranks
+pub mod Related
+pub mod Rooms
+pub mod Tall
+pub mod Written
+pub mod Yields

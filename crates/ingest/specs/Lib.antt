@@ -1,0 +1,12 @@
+pub mod Asked
+pub mod Charges
+pub mod Faults
+pub mod Found
+pub mod Leaves
+pub mod Order
+pub mod Passes
+pub mod Piece
+pub mod Reading
+pub mod Rows
+pub mod Table
+pub mod Vector
