@@ -6,6 +6,8 @@ ghost use Rattle.checks.specs.Traces.{Traces};
 mod ring_kinds;
 #[cfg(test)]
 mod selector_values;
+#[cfg(test)]
+mod table_reading;
 
 // The worked examples hold of the definitions that the contracts cite; tells how many there are.
 pub fn traces_hold() -> u8

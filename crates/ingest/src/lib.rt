@@ -42,6 +42,3 @@ pub use table::pass;
 pub use witness::read_committed;
 pub use witness::witness_of_buffer;
 pub use witness::witness_of_vector;
-
-#[cfg(test)]
-mod tests;
