@@ -24,7 +24,7 @@ impl Session {
     }
 
     // The layout that a name holds.
-    pub fn held(&self, name: &str) -> JaggedLayout
+    pub(crate) fn held(&self, name: &str) -> JaggedLayout
         ensures { λ r. ⌜ shape r ≡ slot (now (self .entry)) (now (name .entry)) ⌝ }
     {
         match self.slots.get(name) {
@@ -34,7 +34,7 @@ impl Session {
     }
 
     // Has a name hold a layout.
-    pub fn hold(&mut self, name: String, layout: JaggedLayout) -> Result<(), AllocError>
+    pub(crate) fn hold(&mut self, name: String, layout: JaggedLayout) -> Result<(), AllocError>
         ensures { λ r. ⌜ Cases r (λ _. (other : List ℕ) → slot (now (self .exit)) other ≡ placed (slot (now (self .entry))) (string-bytes name) (shape layout) other) (λ _. Same (now (self .entry)) (now (self .exit))) ⌝ }
     {
         match self.slots.insert(name, layout) {

@@ -20,7 +20,7 @@ pub enum Mark {
 
 impl Mark {
     // Whether a byte is such a mark.
-    pub fn is(self, byte: u8) -> bool
+    pub(crate) fn is(self, byte: u8) -> bool
         ensures { λ r. ⌜ r ≡ isMark self byte ⌝ }
     {
         match self {
