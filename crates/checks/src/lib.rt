@@ -1,4 +1,5 @@
 // Worked examples of the layers: proved of the definitions, and run over the public calls.
+#![tactic(auto)]
 ghost use Rattle.std.specs.Prelude.{◌≡◌};
 ghost use Rattle.checks.specs.Traces.{Traces};
 

@@ -1,4 +1,5 @@
 // Reading a trace: record tables over the caller's memory, the dense vector that they are written to, and the witness.
+#![tactic(auto)]
 mod account;
 mod fault;
 mod find;

@@ -1,5 +1,5 @@
 -- The shape of a layout, read off its boundaries. Assumes nothing.
-use Rattle.std.proofs.Common.{◌≡◌, ℕ, zero, suc, ◌+◌, ◌-◌, ◌^◌, ◌<◌, ◌≤◌, min, Bool, List, map, length, get_or, take, set, replicate, Decides, sum, sym, refl, ap, ◌∙◌, subst, ⊎_elim, add-one, arith}
+use Rattle.std.proofs.Common.{◌≡◌, ℕ, zero, suc, ◌+◌, ◌-◌, ◌^◌, ◌<◌, ◌≤◌, min, Bool, List, map, length, get_or, take, set, replicate, Decides, drop, nat_eq, sum, sym, refl, ap, ◌∙◌, subst, ⊎_elim, add-one, arith}
 use lib.Count.{ones, count_trailing_zeros}
 use Rattle.std.specs.List.{range_with_len}
 use Rattle.std.proofs.lemmas.List.FromFn.{length-map-range_with_len, get_or-map-range_with_len, fill_by_all}
@@ -7,6 +7,9 @@ use Rattle.std.proofs.lemmas.List.{ext_get_or, take_all, get_or_past, get_or-set
 use Rattle.std.proofs.lemmas.List.Sums.{sum_by_more}
 use Rattle.std.proofs.lemmas.Bool.{eqb-true, cases_eq, cases_lt}
 use Rattle.layout.specs.declared.geometry.JaggedLayout.{JaggedLayout}
+use Rattle.std.specs.Cmp.{unsigned_Decides}
+use Rattle.std.specs.Cmp.Lexicographic.{pointwise, pointwise_decides}
+use Rattle.layout.specs.Equality.{numbers}
 use Rattle.layout.specs.Layout.{shape, AllLawful}
 use Rattle.layout.specs.Shape.{Shape, Lawful, columns, height, start, area, boundaries}
 use Rattle.layout.proofs.Powers.{one-digit, powers_of_two}
@@ -45,6 +48,16 @@ shapes_decided S T r rows dense told = (
       same_shape S T rows dense (heights_tell S T (omega (arith, long S, long T, ap length same)) same)),
   (λ e. told.1 (ap boundaries e)),
 )
+
+-- the numbers of two shapes are the same where the shapes are
+pub numbers_decide : (S T : Shape) → Decides (pointwise nat_eq (numbers S) (numbers T)) (S ≡ T)
+numbers_decide S T =
+    let told = pointwise_decides unsigned_Decides (numbers S) (numbers T) in (
+      (λ t.
+          let same = told.0 t in
+          same_shape S T (ap (λ l. get_or l 0 0) same) (ap (λ l. get_or l 1 0) same) (ap (drop 2) same)),
+      (λ e. told.1 (ap numbers e)),
+    )
 
 module _ (l : JaggedLayout) where
   pub columns_are : columns (shape l) ≡ l.columns

@@ -1,4 +1,5 @@
 pub mod Encoding
+pub mod Equality
 pub mod Faults
 pub mod Layout
 pub mod Plan

@@ -1,4 +1,6 @@
 // Layouts of jagged tables: columns of unequal heights, one after the other in a dense vector.
+#![tactic(auto)]
+
 mod build;
 mod encode;
 mod error;

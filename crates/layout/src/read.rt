@@ -3,11 +3,11 @@ ghost use Rattle.std.specs.Prelude.{◌≡◌, ◌+◌, ◌^◌, [], ◌∷◌, 
 ghost use Rattle.std.specs.Int.Count.{count_trailing_zeros};
 ghost use Rattle.ring.specs.Checks.{verdict, when};
 ghost use Rattle.layout.specs.declared.error.JaggedLayoutError.TheVariants.{NoSuchColumn};
+ghost use Rattle.layout.specs.Equality.{same_layout};
 ghost use Rattle.layout.specs.Layout.{shape};
 ghost use Rattle.layout.specs.Shape.{Lawful, columns, height, area, capacity, boundaries};
 ghost use Rattle.std.specs.Cmp.Rules.{comparing};
 ghost use Rattle.std.proofs.Common.{rules, arith};
-ghost use Rattle.std.specs.Cmp as Keys;
 
 use crate::error::JaggedLayoutError;
 use crate::geometry::JaggedLayout;
@@ -77,12 +77,13 @@ impl JaggedLayout {
 
 // Layouts are equal where their shapes are.
 impl PartialEq for JaggedLayout {
-    ghost equals = { λ a b r. Decides r (shape a ≡ shape b) };
+    ghost eq = { same_layout };
 
-    ghost laws = { Keys.partial_equiv_from_equiv (first_of (Prim.search (comparing, rules), Prim.grind (arith, Self.row.coded.inj))) };
+    ghost laws = { Prim.search (comparing, rules) };
 
     fn eq(&self, other: &JaggedLayout) -> bool
-        ensures { Decides result (shape self.now ≡ shape other.now) }
+        ensures answer { result ≡ same_layout self.now other.now }
+        ensures decided { Decides result (shape self.now ≡ shape other.now) }
     {
         if self.row_variables != other.row_variables
             || self.dense_variables != other.dense_variables
@@ -94,5 +95,5 @@ impl PartialEq for JaggedLayout {
 }
 
 impl Eq for JaggedLayout {
-    ghost laws = { first_of (Prim.search (comparing, rules), Prim.grind (arith, Self.row.coded.inj)) };
+    ghost laws = { Prim.search (comparing, rules) };
 }

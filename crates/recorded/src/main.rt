@@ -1,4 +1,5 @@
 // recorded: makes the calls that the original was asked, so that its recorded answers are held against the library's.
+#![tactic(auto)]
 use lines::step;
 use script::Session;
 use std::io;

@@ -1,5 +1,5 @@
 -- What follows from the laws of a ring. Assumes nothing.
-use Rattle.std.specs.Prelude.{◌≡◌, ℕ, zero, suc, refl}
+use Rattle.std.specs.Prelude.{◌≡◌, ℕ, zero, suc}
 use Rattle.std.proofs.Common.{sym, ap, ◌∙◌}
 use Rattle.ring.specs.Extension.{copies}
 use Rattle.ring.specs.Operations.{Operations, Laws}

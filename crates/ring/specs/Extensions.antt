@@ -1,9 +1,8 @@
 -- Elements a + b·u keep the laws where the ring below does, whatever u·u is. Assumes nothing.
-use Rattle.std.specs.Prelude.{◌≡◌, List, [], ◌∷◌, refl}
-use Rattle.std.proofs.Common.{ap, ◌∙◌}
+use Rattle.std.specs.Prelude.{◌≡◌, [], ◌∷◌, refl}
 use Rattle.ring.specs.Extension.{extension}
 use Rattle.ring.specs.Operations.{Operations, Laws}
-use Rattle.ring.specs.Solve.{Expr, at, nil, unit, ◌⊕◌, ◌⊗◌, solve}
+use Rattle.ring.specs.Solve.{at, nil, unit, ◌⊕◌, ◌⊗◌, solve}
 
 pub both : {A B : Type 0} {a c : A} {b d : B} → a ≡ c → b ≡ d → ◌≡◌ {A = A × B} (a, b) (c, d)
 both p q = λ i. (p i, q i)

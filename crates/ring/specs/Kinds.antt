@@ -1,5 +1,5 @@
 -- What residues and words stand for. Assumes nothing.
-use Rattle.std.specs.Prelude.{ℕ, ◌^◌, ◌<◌}
+use Rattle.std.specs.Prelude.{ℕ, ◌^◌}
 use Rattle.std.proofs.Common.{lit<}
 use Rattle.ring.specs.Modular.{Below, remainder, modular}
 use Rattle.ring.specs.Operations.{Operations}

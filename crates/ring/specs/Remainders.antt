@@ -1,12 +1,12 @@
 -- Numbers modulo m keep the laws of a ring, for any m above zero. Assumes nothing.
-use Rattle.std.specs.Prelude.{◌≡◌, ℕ, ◌+◌, ◌-◌, ◌*◌, ◌/◌, ◌%◌, ◌<◌, ◌≤◌, Decides, ◌==◌, refl}
+use Rattle.std.specs.Prelude.{◌≡◌, ℕ, ◌+◌, ◌-◌, ◌*◌, ◌/◌, ◌%◌, ◌<◌, ◌≤◌, Decides, ◌==◌}
 use Rattle.std.proofs.Common.{sym, ap, ◌∙◌, add_assoc, add_comm, add-zero, mul_assoc, mul_comm, mul-one, mul-add, add-mul, mod-eq_of_lt, arith, eq-eqb, eqb-true}
 use mathlib.Core.HLevel.{Σ_prop_path}
 use Rattle.std.proofs.Math.Bridge.{le_prop}
 use Rattle.std.proofs.Math.Nat.{mod-add-mod, add-mod-mod, mod-add-div, add-mul-mod_self_left, mod-mod, add-mod, add-mod_right, add-mul-mod_self_right}
 use Rattle.ring.specs.Algebra.{plus_cancel}
 use Rattle.ring.specs.Modular.{Below, remainder, modular}
-use Rattle.ring.specs.Operations.{Operations, Laws}
+use Rattle.ring.specs.Operations.{Laws}
 
 pub same_number : {m : ℕ} {a b : Below m} → a.0 ≡ b.0 → a ≡ b
 same_number p = Σ_prop_path (λ n. le_prop) p

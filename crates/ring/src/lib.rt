@@ -1,4 +1,6 @@
 // The rings that a table's cells are of: what a ring is, residues, words and pairs, and their bytes.
+#![tactic(auto)]
+
 mod coefficient;
 mod fault;
 mod kind;

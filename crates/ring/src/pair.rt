@@ -132,7 +132,7 @@ impl<R: Coefficient> Coefficient for Pair<R> {
 
 // Equal where both parts are.
 impl<R: PartialEq> PartialEq for Pair<R> {
-    ghost equals = { λ x y r. (p : Bool) × (q : Bool) × R.PartialEq.equals x.a y.a p × R.PartialEq.equals x.b y.b q × (r ≡ p && q) };
+    ghost eq = { λ x y. R.PartialEq.eq x.a y.a && R.PartialEq.eq x.b y.b };
 
     ghost laws = { Prim.search (comparing, rules) };
 

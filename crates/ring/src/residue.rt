@@ -1,5 +1,5 @@
 // Residues: numbers below 15 · 2^27 + 1, a prime.
-ghost use Rattle.std.specs.Prelude.{◌≡◌, Some, decimal, Decides};
+ghost use Rattle.std.specs.Prelude.{◌≡◌, ◌==◌, Some, decimal, Decides};
 ghost use Rattle.std.proofs.Common.{ap, lit<, lit≤, rules};
 ghost use Rattle.ring.specs.Bytes.{eight};
 ghost use Rattle.ring.specs.Kinds.{residues, residue_of, residue_value, prime};
@@ -115,11 +115,14 @@ impl Coefficient for Residue {
 
 // Equal where the values are.
 impl PartialEq for Residue {
-    ghost equals = { λ x y r. Decides r (residue_value x ≡ residue_value y) };
+    ghost eq = { λ x y. (residue_value x).0 == (residue_value y).0 };
 
     ghost laws = { Keys.partial_equiv_from_equiv (Prim.search (comparing, rules)) };
 
-    fn eq(&self, other: &Residue) -> bool {
+    fn eq(&self, other: &Residue) -> bool
+        ensures answer { result ≡ ((residue_value self.now).0 == (residue_value other.now).0) }
+        ensures decided { Decides result (residue_value self.now ≡ residue_value other.now) }
+    {
         self.number() == other.number()
     }
 }

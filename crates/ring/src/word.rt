@@ -1,5 +1,5 @@
 // Words: numbers that wrap at 2^64.
-ghost use Rattle.std.specs.Prelude.{◌≡◌, Some, decimal, Decides};
+ghost use Rattle.std.specs.Prelude.{◌≡◌, ◌==◌, Some, decimal, Decides};
 ghost use Rattle.std.proofs.Common.{ap, lit<, lit≤, rules};
 ghost use Rattle.ring.specs.Bytes.{eight};
 ghost use Rattle.ring.specs.Kinds.{words, word_of, word_value, wrap};
@@ -100,11 +100,14 @@ impl Coefficient for Word {
 
 // Equal where the values are.
 impl PartialEq for Word {
-    ghost equals = { λ x y r. Decides r (word_value x ≡ word_value y) };
+    ghost eq = { λ x y. (word_value x).0 == (word_value y).0 };
 
     ghost laws = { Keys.partial_equiv_from_equiv (Prim.search (comparing, rules)) };
 
-    fn eq(&self, other: &Word) -> bool {
+    fn eq(&self, other: &Word) -> bool
+        ensures answer { result ≡ ((word_value self.now).0 == (word_value other.now).0) }
+        ensures decided { Decides result (word_value self.now ≡ word_value other.now) }
+    {
         self.number() == other.number()
     }
 }

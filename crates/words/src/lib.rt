@@ -1,4 +1,5 @@
 // The words of a script: a text is cut at its marks, and single words say numbers, lists, bytes and names.
+#![tactic(auto)]
 mod literal;
 mod split;
 

@@ -18,7 +18,7 @@ loop-place-preserved c =
     let written = flat_map eight (take i ns) in
     let long : length written ≡ 8 * i = length_numbers (take i ns) ∙ ap (λ n. 8 * n) (length-take-le i ns (omega arith)) in
     let count : 8 * i + 8 ≡ 8 * (i + 1) = omega arith in
-    c.put-number.ensures
+    c.put_number.ensures
     ∙ ap (λ b. paste b (c.args.at + 8 * i) (eight (get_or ns i 0)) 8) c.loop-place.invariant
     ∙ paste_more d written (eight (get_or ns i 0)) c.args.at (8 * i) 8 long refl (omega arith)
     ∙ ap (λ x. paste d c.args.at x (8 * i + 8)) (sym (numbers_more ns i c.loop-place-test.true))

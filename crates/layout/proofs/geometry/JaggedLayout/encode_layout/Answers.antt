@@ -22,10 +22,10 @@ returns-then-bytes-required c =
       tell = bytes_tell_shapes;
     }
 
-pub put-numbers-requires : goal.put-numbers-requires
-put-numbers-requires c =
+pub put_numbers-requires : goal.put_numbers-requires
+put_numbers-requires c =
     let l = c.args.self.now in
-    let count = ap length c.cumulative-heights.ensures.value ∙ length-map-range_with_len (start (shape l)) 0 (columns (shape l) + 1) in
+    let count = ap length c.cumulative_heights.ensures.value ∙ length-map-range_with_len (start (shape l)) 0 (columns (shape l) + 1) in
     omega (arith, columns_are l, count)
 
 pub returns : goal.returns
@@ -36,8 +36,8 @@ returns c =
     record {
       answer = ap Ok (sym long) ∙ sym (cond-false _ _ _ (le-ltb (length c.args.bytes.now) (layout_length (shape l)) (omega arith)));
       after =
-          written (shape l) c.args.bytes.now c.put-number.new.bytes c.put-number-2.new.bytes c.put-number-3.new.bytes c.put-numbers.new.bytes c.cumulative-heights.result.now
-          (omega arith) c.cumulative-heights.ensures.value c.put-number.ensures c.put-number-2.ensures (c.put-number-3.ensures ∙ ap (λ n. paste c.put-number-2.new.bytes 16 (eight (n + 1)) 8) (sym (columns_are l))) c.put-numbers.ensures;
+          written (shape l) c.args.bytes.now c.put_number.new.bytes c.put_number-2.new.bytes c.put_number-3.new.bytes c.put_numbers.new.bytes c.cumulative_heights.result.now
+          (omega arith) c.cumulative_heights.ensures.value c.put_number.ensures c.put_number-2.ensures (c.put_number-3.ensures ∙ ap (λ n. paste c.put_number-2.new.bytes 16 (eight (n + 1)) 8) (sym (columns_are l))) c.put_numbers.ensures;
       len = bytes_long (shape l);
       tell = bytes_tell_shapes;
     }

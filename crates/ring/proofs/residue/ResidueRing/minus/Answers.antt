@@ -1,4 +1,4 @@
-use Rattle.std.proofs.Common.{ap, ◌∙◌, arith, lit<}
+use Rattle.std.proofs.Common.{◌∙◌, arith, lit<}
 use Rattle.ring.specs.Kinds.{prime}
 use Rattle.ring.specs.Remainders.{minus_of}
 use Rattle.ring.proofs.residue.ResidueRing.minus.Goals as goal

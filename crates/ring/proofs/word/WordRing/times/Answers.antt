@@ -1,4 +1,4 @@
-use Rattle.std.proofs.Common.{◌∙◌, arith, lit<}
+use Rattle.std.proofs.Common.{◌∙◌, lit<}
 use Rattle.ring.specs.Kinds.{wrap}
 use Rattle.ring.specs.Remainders.{again, times_of}
 use Rattle.ring.proofs.word.WordRing.times.Goals as goal
