@@ -1,5 +1,6 @@
 // The words of a script: a text is cut at its marks, and single words say numbers, lists, bytes and names.
 #![tactic(auto)]
+
 mod literal;
 mod split;
 

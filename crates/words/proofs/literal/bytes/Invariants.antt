@@ -1,4 +1,4 @@
-use Rattle.std.proofs.Common.{◌≡◌, ◌*◌, length, drop, Some, vec_items, vec_len}
+use Rattle.std.proofs.Common.{◌≡◌, ◌*◌, length, drop, Some, vec_items}
 use Rattle.words.specs.Words.{after, hex_of}
 use Rattle.words.proofs.literal.bytes.Given as goal
 

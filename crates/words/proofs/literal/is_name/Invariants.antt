@@ -1,4 +1,4 @@
-use Rattle.std.proofs.Common.{◌≡◌, true, take, drop}
+use Rattle.std.proofs.Common.{◌≡◌, drop}
 use Rattle.words.specs.Words.{all_name_bytes}
 use Rattle.words.proofs.literal.is_name.Given as goal
 

@@ -1,7 +1,6 @@
-use Rattle.std.proofs.Common.{◌≡◌, ◌+◌, ◌<◌, ◌≤◌, false, length, drop, replicate, Some, None, vec_items, sym, refl, ap, ◌∙◌, subst, arith, length-append}
+use Rattle.std.proofs.Common.{◌+◌, length, drop, replicate, Some, vec_items, sym, ap, ◌∙◌, arith, length-append}
 use lib.ListN.{length-replicate}
-use Rattle.std.specs.Option.{option_map}
-use Rattle.words.specs.Words.{repeated, after, items_of}
+use Rattle.words.specs.Words.{after, items_of}
 use Rattle.words.specs.Cuts.{texts}
 use Rattle.words.proofs.Saying.{dash_list, items_more, no_item, too_many, whole_list}
 use Rattle.words.proofs.literal.list.Goals as goal
@@ -9,42 +8,42 @@ use Rattle.words.proofs.literal.list.Goals as goal
 pub returns-then-says : goal.returns-then-says
 returns-then-says c = ap Some c.new-list.ensures.items ∙ dash_list c.args.word.now (sym c.if-says.ensures)
 
-pub returns-in-default : goal.returns-in-default
-returns-in-default c =
+pub returns-in_default : goal.returns-in_default
+returns-in_default c =
     no_item c.args.word.now c.deref-item-items.result.now
-    (ap texts c.deref-item-items.ensures.value ∙ c.in-ok-items.ensures)
+    (ap texts c.deref-item-items.ensures.value ∙ c.in_ok-items.ensures)
     c.loop-item.item-index c.loop-item-test.true _ c.loop-item.invariant.0
-    c.in-default.ensures
+    c.in_default.ensures
     (sym c.if-says.ensures)
 
-pub returns-then-times-saturating-sub : goal.returns-then-times-saturating-sub
-returns-then-times-saturating-sub c =
+pub returns-then-times-saturating_sub : goal.returns-then-times-saturating_sub
+returns-then-times-saturating_sub c =
     let rep = length-replicate c.in-Some.times c.in-Some.value in
     too_many c.args.word.now c.deref-item-items.result.now
-    (ap texts c.deref-item-items.ensures.value ∙ c.in-ok-items.ensures)
+    (ap texts c.deref-item-items.ensures.value ∙ c.in_ok-items.ensures)
     c.loop-item.item-index c.loop-item-test.true (vec_items c.loop-item.list) c.loop-item.invariant.0
     (replicate c.in-Some.times c.in-Some.value)
     c.in-Some.ensures
-    (omega (arith, rep, c.len.ensures, c.saturating-sub.ensures, c.loop-item.list.ok.0, c.if-times-saturating-sub.true))
+    (omega (arith, rep, c.len.ensures, c.saturating_sub.ensures, c.loop-item.list.ok.0, c.if-times-saturating_sub.true))
     (sym c.if-says.ensures)
 
 pub loop-item-preserved : goal.loop-item-preserved
 loop-item-preserved c =
     let rep = length-replicate c.in-Some.times c.in-Some.value in
-    let now = c.in-ok-repeat.ensures in (
+    let now = c.in_ok-repeat.ensures in (
       ap (λ l. after (Some l) (items_of (drop (c.loop-item.item-index + 1) (texts c.deref-item-items.result.now)))) now
           ∙ items_more c.args.word.now c.deref-item-items.result.now
-          (ap texts c.deref-item-items.ensures.value ∙ c.in-ok-items.ensures)
+          (ap texts c.deref-item-items.ensures.value ∙ c.in_ok-items.ensures)
           c.loop-item.item-index c.loop-item-test.true (vec_items c.loop-item.list) c.loop-item.invariant.0
           (replicate c.in-Some.times c.in-Some.value)
           c.in-Some.ensures,
-      omega (arith, rep, ap length now ∙ length-append (vec_items c.loop-item.list) (replicate c.in-Some.times c.in-Some.value), c.len.ensures, c.saturating-sub.ensures, c.loop-item.list.ok.0, c.if-times-saturating-sub.false, c.loop-item.invariant.1),
+      omega (arith, rep, ap length now ∙ length-append (vec_items c.loop-item.list) (replicate c.in-Some.times c.in-Some.value), c.len.ensures, c.saturating_sub.ensures, c.loop-item.list.ok.0, c.if-times-saturating_sub.false, c.loop-item.invariant.1),
     )
 
 pub returns : goal.returns
 returns c =
     whole_list c.args.word.now c.deref-item-items.result.now _ c.loop-item.item-index
-    (ap texts c.deref-item-items.ensures.value ∙ c.in-ok-items.ensures)
+    (ap texts c.deref-item-items.ensures.value ∙ c.in_ok-items.ensures)
     (sym c.if-says.ensures)
     c.loop-item.invariant.0
     c.loop-item-test.false

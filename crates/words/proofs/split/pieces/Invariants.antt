@@ -1,4 +1,4 @@
-use Rattle.std.proofs.Common.{◌≡◌, ◌≤◌, ◌++◌, map, length, vec_items}
+use Rattle.std.proofs.Common.{◌≡◌, ◌≤◌, ◌++◌, length, vec_items}
 use Rattle.words.specs.Cuts.{pieces, texts}
 use Rattle.words.proofs.split.pieces.Given as goal
 
