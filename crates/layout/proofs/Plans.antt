@@ -1,15 +1,14 @@
 -- What passes the checks of an asked layout, and what does not. Assumes nothing.
-use Rattle.std.proofs.Common.{◌≡◌, ℕ, ◌+◌, ◌/◌, ◌^◌, ◌<◌, ◌≤◌, max, true, not, ltb, leb, List, ◌++◌, length, get_or, take, Ok, Err, sum, sym, refl, ap, ◌∙◌, subst, ⊎_elim, pow-suc, arith, pow_mono}
+use Rattle.std.proofs.Common.{◌≡◌, ℕ, ◌+◌, ◌/◌, ◌^◌, ◌<◌, ◌≤◌, max, true, List, ◌++◌, length, get_or, take, Ok, Err, sum, ap, ◌∙◌, ⊎_elim, pow-suc, arith, pow_mono}
 use lib.Count.{ones, count_trailing_zeros}
 use Rattle.std.specs.List.{range_with_len, flat_map}
-use Rattle.std.proofs.lemmas.Nat.{pow_below}
 use Rattle.std.proofs.lemmas.List.{get_or_past}
 use Rattle.std.proofs.lemmas.Bool.{not-false, ltb-false, leb-false, lt-ltb, le-ltb, lt-leb, le-leb, cond-true, cond-false, cases_lt}
 use Rattle.ring.specs.Checks.{verdict, Passed}
 use Rattle.layout.specs.declared.error.JaggedLayoutError.{JaggedLayoutError}
 use Rattle.layout.specs.declared.error.JaggedLayoutError.TheVariants.{HeightExceedsRowBound, AreaOverflow}
 use Rattle.layout.specs.Plan.{checks, count_checks, column_checks, height_checks, dense_checks, dense_for, planned}
-use Rattle.layout.specs.Powers.{power_of_two, covering, Least}
+use Rattle.layout.specs.Powers.{power_of_two, covering}
 use Rattle.layout.specs.Shape.{Lawful, max_columns}
 use Rattle.layout.proofs.Powers.{powers_of_two, covering_least, least_same, one-digit, ones_power}
 use Rattle.ring.proofs.Verdicts.{verdict-passed, verdict_all, verdict_refused, passed_from_ok, passed_left, passed_right, passed-at, passed_more, fails-at}

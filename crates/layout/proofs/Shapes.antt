@@ -1,5 +1,5 @@
 -- The shape of a layout, read off its boundaries. Assumes nothing.
-use Rattle.std.proofs.Common.{◌≡◌, ℕ, zero, suc, ◌+◌, ◌-◌, ◌^◌, ◌<◌, ◌≤◌, min, Bool, List, map, length, get_or, take, set, replicate, Decides, drop, nat_eq, sum, sym, refl, ap, ◌∙◌, subst, ⊎_elim, add-one, arith}
+use Rattle.std.proofs.Common.{◌≡◌, ℕ, zero, suc, ◌+◌, ◌-◌, ◌^◌, ◌<◌, ◌≤◌, Bool, List, map, length, get_or, take, set, replicate, Decides, drop, nat_eq, sum, sym, refl, ap, ◌∙◌, subst, ⊎_elim, add-one, arith}
 use lib.Count.{ones, count_trailing_zeros}
 use Rattle.std.specs.List.{range_with_len}
 use Rattle.std.proofs.lemmas.List.FromFn.{length-map-range_with_len, get_or-map-range_with_len, fill_by_all}
@@ -11,7 +11,7 @@ use Rattle.std.specs.Cmp.{unsigned_Decides}
 use Rattle.std.specs.Cmp.Lexicographic.{pointwise, pointwise_decides}
 use Rattle.layout.specs.Equality.{numbers}
 use Rattle.layout.specs.Layout.{shape, AllLawful}
-use Rattle.layout.specs.Shape.{Shape, Lawful, columns, height, start, area, boundaries}
+use Rattle.layout.specs.Shape.{Shape, columns, height, start, area, boundaries}
 use Rattle.layout.proofs.Powers.{one-digit, powers_of_two}
 
 -- the heights between boundaries

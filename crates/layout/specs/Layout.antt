@@ -1,5 +1,5 @@
 -- What a `JaggedLayout` stands for. Assumes nothing.
-use Rattle.std.specs.Prelude.{ℕ, ◌+◌, ◌-◌, List, map, slice_index}
+use Rattle.std.specs.Prelude.{◌+◌, ◌-◌, map, slice_index}
 use Rattle.std.specs.List.{range_with_len}
 use Rattle.layout.specs.declared.geometry.JaggedLayout.{JaggedLayout}
 use Rattle.layout.specs.Shape.{Shape, Lawful}

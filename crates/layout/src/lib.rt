@@ -87,7 +87,7 @@ mod tests {
         let kept = layout;
         assert_eq!(rt; layout.new(0, &[]), Err(JaggedLayoutError::NoColumns));
         assert!(rt; layout == kept);
-        assert!(rt; layout.cumulative_heights() == [0, 2, 3]);
+        assert!(rt; layout.cumulative_heights() == [0, 2, 3].as_slice());
         assert_eq!(rt; layout.dense_variables(), 2);
         assert_eq!(rt; layout.column_variables(), 1);
         assert_eq!(rt; layout.dense_capacity(), 4);

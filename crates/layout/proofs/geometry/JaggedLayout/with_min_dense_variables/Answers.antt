@@ -1,10 +1,9 @@
-use Rattle.std.proofs.Common.{◌≡◌, ℕ, ◌+◌, ◌^◌, ◌<◌, ◌≤◌, length, get_or, sum, sym, refl, ap, ◌∙◌, subst, arith, rules}
+use Rattle.std.proofs.Common.{◌+◌, ◌^◌, ◌<◌, ◌≤◌, length, get_or, sum, sym, refl, ap, ◌∙◌, subst, arith, rules}
 use Rattle.std.proofs.lemmas.List.{take_all}
 use Rattle.std.proofs.lemmas.Result.{err_from_is_err_and}
 use Rattle.std.proofs.lemmas.List.Sums.{sum_by_more}
 use Rattle.layout.specs.Layout.{shape}
 use Rattle.layout.specs.Plan.{checks, planned}
-use Rattle.layout.specs.Shape.{Shape}
 use Rattle.layout.proofs.Plans.{accepted_passed, accepted_dense, plan_power, plan_area, plan_lawful}
 use Rattle.layout.proofs.Powers.{powers_of_two, covering_least}
 use Rattle.layout.proofs.Shapes.{all_lawful, heights_are, same_shape}
