@@ -1,7 +1,7 @@
 -- A buffer whose first cells are weights by the first coordinates of a point. Assumes nothing.
-use Rattle.std.proofs.Common.{◌≡◌, ℕ, zero, suc, ◌+◌, ◌-◌, ◌*◌, ◌/◌, ◌^◌, ◌<◌, ◌≤◌, min, List, map, length, get_or, set, sym, refl, ap, ◌∙◌, subst, ap₂, pow-suc, div-one, add-one, arith}
+use Rattle.std.proofs.Common.{◌≡◌, ℕ, suc, ◌+◌, ◌-◌, ◌/◌, ◌^◌, ◌<◌, ◌≤◌, List, map, length, get_or, set, sym, ap, ◌∙◌, ap₂, pow-suc, div-one, add-one, arith}
 use native.Mathlib.Nat.{div-div-eq-div-mul, div-eq_of_lt}
-use Rattle.std.proofs.lemmas.List.{length-map, map-set, get_or-set_same, get_or-map}
+use Rattle.std.proofs.lemmas.List.{length-map, map-set, get_or-set_same}
 use Rattle.ring.specs.Operations.{Operations, Laws}
 use Rattle.selector.specs.Weights.{bit, factor, eq}
 use Rattle.selector.specs.Prefix.{Spread}

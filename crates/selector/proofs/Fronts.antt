@@ -1,10 +1,10 @@
 -- Laws of weights: a coordinate more at the low end, and a point read from its low end. Assumes nothing.
-use Rattle.std.proofs.Common.{◌≡◌, ℕ, zero, suc, ◌+◌, ◌-◌, ◌*◌, ◌/◌, ◌%◌, ◌^◌, ◌<◌, ◌≤◌, Bool, true, false, cond, eqb, ltb, List, [], ◌∷◌, length, get_or, sym, refl, ap, ◌∙◌, ap₂, div-one, arith, pow_pos, ltb-false, ltb-true, le-ltb, lt-ltb, ne_eqb, eqb-true}
+use Rattle.std.proofs.Common.{◌≡◌, ℕ, zero, suc, ◌+◌, ◌-◌, ◌/◌, ◌%◌, ◌^◌, ◌<◌, ◌≤◌, Bool, true, false, cond, eqb, ltb, List, length, get_or, sym, refl, ap, ◌∙◌, ap₂, div-one, arith, ltb-true, le-ltb, lt-ltb, ne_eqb, eqb-true}
 use native.Mathlib.Nat.{pow-succ', div-div-eq-div-mul}
 use borrow.Author.Tests.{eqb-false}
 use Rattle.ring.specs.Operations.{Operations, Laws}
-use Rattle.ring.specs.Algebra.{nought-plus, one-times, times-nought, nought-times}
-use Rattle.selector.specs.Sums.{sum_to, product_to}
+use Rattle.ring.specs.Algebra.{one-times, nought-times}
+use Rattle.selector.specs.Sums.{product_to}
 use Rattle.selector.specs.Weights.{bit, factor, eq}
 use Rattle.selector.specs.Automaton.{coordinate, upper}
 use Rattle.selector.proofs.Sums.{product_same}

@@ -1,10 +1,10 @@
 -- Cells of a buffer after a part of it was written, and the places of columns. Assumes nothing.
-use Rattle.std.proofs.Common.{◌≡◌, ℕ, zero, suc, ◌+◌, ◌-◌, ◌^◌, ◌<◌, ◌≤◌, Bool, true, false, ltb, List, ◌++◌, map, length, get_or, take, drop, sum, sym, refl, ap, ◌∙◌, subst, ap₂, add-zero, add-suc, add-one, arith, pow_mono, ltb-false, ltb-true}
+use Rattle.std.proofs.Common.{◌≡◌, ℕ, zero, suc, ◌+◌, ◌-◌, ◌^◌, ◌<◌, ◌≤◌, Bool, true, false, ltb, List, ◌++◌, map, length, get_or, take, drop, sym, refl, ap, ◌∙◌, subst, ap₂, add-zero, add-suc, add-one, arith, pow_mono, ltb-false, ltb-true}
 use borrow.Rule.Slice.PartMut.{put_mid}
 use Rattle.std.proofs.lemmas.List.FromFn.{length-map-range_with_len}
-use Rattle.std.proofs.lemmas.List.{map-append, take-map, drop-map, length-map, length-take-le, get_or_append_left, get_or-append_right, get_or-take, take_all}
-use Rattle.ring.specs.Operations.{Operations, Laws}
-use Rattle.layout.specs.Shape.{Shape, Lawful, columns, height, start, area, capacity, boundaries}
+use Rattle.std.proofs.lemmas.List.{map-append, take-map, drop-map, length-map, length-take-le, get_or_append_left, get_or-append_right, get_or-take}
+use Rattle.ring.specs.Operations.{Operations}
+use Rattle.layout.specs.Shape.{Shape, Lawful, columns, height, start, capacity, boundaries}
 use Rattle.layout.proofs.Shapes.{start_more, area-start, boundary_is}
 use Rattle.selector.specs.Selector.{Columns}
 use Rattle.selector.specs.Weights.{eq}

@@ -3,10 +3,9 @@ use Rattle.std.proofs.Common.{◌≡◌, ℕ, zero, suc, ◌+◌, ◌-◌, ◌/�
 use native.Mathlib.Nat.{div-div-eq-div-mul, div-eq_of_lt}
 use lib.Pow.{pow-lt}
 use Rattle.ring.specs.Operations.{Operations, Laws}
-use Rattle.selector.specs.Automaton.{coordinate, upper, digit, suffix, sum_bit, carry_out, less_out, stepped}
+use Rattle.selector.specs.Automaton.{coordinate, upper, suffix, sum_bit, carry_out, less_out, stepped}
 use Rattle.selector.specs.Layers.{leading_to, column_sum}
-use Rattle.selector.specs.Sums.{sum_to}
-use Rattle.selector.specs.Weights.{bit, factor, eq}
+use Rattle.selector.specs.Weights.{bit, factor}
 use Rattle.selector.proofs.Fronts.{front, front_more, front_zero}
 use Rattle.selector.proofs.Steps.{suffix_step}
 use Rattle.selector.proofs.Suffixes.{suffix_top, suffix_bottom, leading_front}

@@ -1,11 +1,11 @@
 -- The selector column by column, and as the extension of its table. Assumes nothing.
-use Rattle.std.proofs.Common.{◌≡◌, ℕ, zero, suc, ◌+◌, ◌-◌, ◌^◌, ◌<◌, ◌≤◌, List, [], ◌∷◌, length, get_or, sym, refl, ap, ◌∙◌, ap₂, add-zero, add-one, arith}
+use Rattle.std.proofs.Common.{◌≡◌, ℕ, ◌+◌, ◌-◌, ◌^◌, ◌<◌, List, length, get_or, sym, refl, ap, ◌∙◌, ap₂, arith}
 use Rattle.ring.specs.Operations.{Operations, Laws}
 use Rattle.ring.specs.Algebra.{times-nought}
 use Rattle.layout.specs.Shape.{Shape, Lawful, columns, height, start, area, capacity}
 use Rattle.layout.proofs.Shapes.{start_more, area-start}
 use Rattle.selector.specs.Layers.{column_sum}
-use Rattle.selector.specs.Selector.{selector, Table, Extends}
+use Rattle.selector.specs.Selector.{selector, Extends}
 use Rattle.selector.specs.Sums.{sum_to}
 use Rattle.selector.specs.Weights.{eq}
 use Rattle.selector.proofs.Places.{start_next}

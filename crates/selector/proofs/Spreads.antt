@@ -1,12 +1,10 @@
 -- Writing the weights of one coordinate more over those of the coordinates before it. Assumes nothing.
-use Rattle.std.proofs.Common.{◌≡◌, ℕ, zero, suc, ◌+◌, ◌-◌, ◌*◌, ◌/◌, ◌%◌, ◌^◌, ◌<◌, ◌≤◌, Bool, true, false, cond, eqb, ltb, ◌≢◌, ◌⊎◌, List, [], ◌∷◌, map, length, get_or, drop, set, sym, refl, ap, ◌∙◌, subst, ap₂, inl, inr, ⊎_elim, add-zero, pow-suc, div-one, arith, ltb-false, ltb-true, eq-eqb, ne_eqb}
-use native.Mathlib.Nat.{pow-succ', div-div-eq-div-mul}
+use Rattle.std.proofs.Common.{◌≡◌, ℕ, zero, suc, ◌+◌, ◌-◌, ◌*◌, ◌/◌, ◌%◌, ◌<◌, ◌≤◌, Bool, true, false, ltb, ◌≢◌, List, map, length, get_or, drop, set, sym, refl, ap, ◌∙◌, subst, ap₂, add-zero, arith, ltb-false, ltb-true, eq-eqb, ne_eqb}
 use Rattle.std.proofs.lemmas.List.{length-map, map-set, get_or-set_same, get_or-set_other, get_or-map, get_or-drop, drop-drop, drop-set-lt, length-set}
 use Rattle.ring.specs.Operations.{Operations, Laws}
 use Rattle.ring.specs.Algebra.{plus_cancel}
-use Rattle.selector.specs.Weights.{bit, factor, eq}
+use Rattle.selector.specs.Weights.{bit, factor}
 use Rattle.selector.specs.Prefix.{Spread}
-use Rattle.selector.proofs.Fronts.{front, front_more}
 
 -- a - a x is a (1 - x)
 pub minus-times : (K : Operations) (L : Laws K) (a x : K.Value) → K.minus a (K.times a x) ≡ K.times a (K.minus K.one x)

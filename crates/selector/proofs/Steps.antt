@@ -1,15 +1,14 @@
 -- One layer of the automaton: the suffix weights of a layer from those of the layer above. Assumes nothing.
-use Rattle.std.proofs.Common.{◌≡◌, ℕ, zero, suc, ◌+◌, ◌-◌, ◌*◌, ◌/◌, ◌%◌, ◌^◌, ◌<◌, ◌≤◌, Bool, true, false, cond, ◌&&◌, ◌||◌, eqb, ltb, List, [], ◌∷◌, sym, refl, ap, ◌∙◌, ap₂, pow-suc, div-one, arith, ltb-false, ltb-true, le-ltb, lt-ltb, eq-eqb, ne_eqb, eqb-true}
+use Rattle.std.proofs.Common.{◌≡◌, ℕ, zero, suc, ◌+◌, ◌*◌, ◌/◌, ◌%◌, ◌^◌, ◌<◌, Bool, true, false, cond, eqb, [], ◌∷◌, sym, refl, ap, ◌∙◌, ap₂, pow-suc, arith, eq-eqb, ne_eqb}
 use native.Mathlib.Nat.{pow-succ', div-div-eq-div-mul}
-use borrow.Author.Tests.{eqb-false}
 use Rattle.std.proofs.lemmas.Bool.Decides.{nat_tests}
 use Rattle.ring.specs.Operations.{Operations, Laws}
-use Rattle.ring.specs.Algebra.{nought-plus, one-times, times-nought, nought-times}
-use Rattle.ring.specs.Solve.{Expr, at, ◌⊕◌, ◌⊗◌, solve}
+use Rattle.ring.specs.Algebra.{times-nought}
+use Rattle.ring.specs.Solve.{at, ◌⊗◌, solve}
 use Rattle.selector.specs.Sums.{sum_to}
 use Rattle.selector.specs.Weights.{bit, factor}
 use Rattle.selector.specs.Automaton.{upper, digit, below, suffix, sum_bit, carry_out, less_out, stepped}
-use Rattle.selector.proofs.Sums.{sum_same, sum-times, sum_twice, sum_none}
+use Rattle.selector.proofs.Sums.{sum_same, sum-times, sum_twice}
 
 -- the low bit of 2 m + t
 low_bit : (t : Bool) (m n : ℕ) → n ≡ 2 * m + digit t → bit 0 n ≡ t

@@ -1,13 +1,11 @@
 -- The automaton computes a column's sum: what its states are above the dense coordinates, and what the first state is at the bottom. Assumes nothing.
-use Rattle.std.proofs.Common.{◌≡◌, ℕ, zero, suc, ◌+◌, ◌-◌, ◌*◌, ◌/◌, ◌%◌, ◌^◌, ◌<◌, ◌≤◌, Bool, true, false, cond, not, ◌&&◌, ◌||◌, eqb, ltb, List, [], ◌∷◌, length, get_or, sym, refl, ap, ◌∙◌, ap₂, div-one, arith, pow_pos, ltb-false, ltb-true, le-ltb, lt-ltb}
+use Rattle.std.proofs.Common.{◌≡◌, ℕ, ◌+◌, ◌-◌, ◌/◌, ◌^◌, ◌<◌, ◌≤◌, Bool, true, false, cond, not, ◌&&◌, ltb, List, length, sym, refl, ap, ◌∙◌, ap₂, div-one, arith, pow_pos, ltb-false, ltb-true}
 use Rattle.std.proofs.lemmas.Bool.Decides.{nat_tests}
 use Rattle.ring.specs.Operations.{Operations, Laws}
-use Rattle.ring.specs.Algebra.{nought-plus, one-times, times-nought, nought-times}
-use Rattle.ring.specs.Solve.{Expr, at, ◌⊕◌, ◌⊗◌, solve}
 use Rattle.selector.specs.Sums.{sum_to}
-use Rattle.selector.specs.Weights.{bit, factor, eq}
+use Rattle.selector.specs.Weights.{eq}
 use Rattle.selector.specs.Automaton.{coordinate, upper, digit, below, suffix}
-use Rattle.selector.proofs.Sums.{sum_same, sum-times, sum_first, sum_below}
+use Rattle.selector.proofs.Sums.{sum_same, sum_first, sum_below}
 use Rattle.selector.proofs.Fronts.{front, upper_none, upper_front, upper-eq}
 
 strictly : (s e i : ℕ) → below (i + (s / 1 + 0)) (e / 1) false ≡ ltb i (e - s)

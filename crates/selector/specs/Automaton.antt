@@ -1,5 +1,5 @@
 -- What the automaton's states stand for, layer by layer. Assumes nothing.
-use Rattle.std.specs.Prelude.{ℕ, zero, suc, ◌+◌, ◌-◌, ◌/◌, ◌%◌, ◌^◌, Bool, true, false, cond, ◌&&◌, ◌||◌, List, length, ◌==◌, nat_lt, slice_index_or}
+use Rattle.std.specs.Prelude.{ℕ, zero, suc, ◌+◌, ◌-◌, ◌/◌, ◌^◌, Bool, true, false, cond, ◌&&◌, ◌||◌, List, length, ◌==◌, nat_lt, slice_index_or}
 use Rattle.ring.specs.Operations.{Operations}
 use Rattle.selector.specs.Sums.{sum_to}
 use Rattle.selector.specs.Weights.{bit, factor}

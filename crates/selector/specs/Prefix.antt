@@ -1,5 +1,5 @@
 -- How many weights fit into a buffer, and a buffer that holds them. Assumes nothing.
-use Rattle.std.specs.Prelude.{◌≡◌, ℕ, ◌/◌, ◌^◌, ◌<◌, ◌≤◌, min, List, length, slice_index_or}
+use Rattle.std.specs.Prelude.{◌≡◌, ℕ, ◌/◌, ◌^◌, ◌<◌, ◌≤◌, min, List, slice_index_or}
 use Rattle.ring.specs.Operations.{Operations}
 use Rattle.selector.specs.Weights.{bit, factor, eq}
 

@@ -1,5 +1,6 @@
 // The selector: weights of a point, the selector's table, and its value at a dense point.
 #![tactic(auto)]
+
 mod automaton;
 mod error;
 mod evaluation;

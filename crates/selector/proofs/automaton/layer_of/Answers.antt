@@ -8,7 +8,7 @@ returns g c =
     let L = g.met.R.Ring.lawful in
     let row = g.R.Ring.value c.args.row in
     let dense = g.R.Ring.value c.args.dense in
-    let dense_alone = c.minus-dense-alone.ensures ∙ ap (K.minus dense) (c.times-both.ensures ∙ L.times_comm row dense) ∙ minus-times K L dense row ∙ L.times_comm dense (K.minus K.one row) in
+    let dense_alone = c.minus-dense_alone.ensures ∙ ap (K.minus dense) (c.times-both.ensures ∙ L.times_comm row dense) ∙ minus-times K L dense row ∙ L.times_comm dense (K.minus K.one row) in
     let rest = c.minus.ensures ∙ ap (λ x. K.minus x row) c.one.ensures in
     record {
       neither = c.minus-2.ensures ∙ ap₂ K.minus rest dense_alone ∙ minus-times K L (K.minus K.one row) dense;

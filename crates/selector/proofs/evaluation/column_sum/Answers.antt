@@ -1,4 +1,4 @@
-use Rattle.std.proofs.Common.{◌≡◌, ◌+◌, ◌-◌, ◌^◌, false, map, length, ap, ◌∙◌, subst, ap₂, arith}
+use Rattle.std.proofs.Common.{◌+◌, ◌-◌, ◌^◌, false, map, length, ap, ◌∙◌, subst, ap₂, arith}
 use Rattle.std.proofs.lemmas.List.{length-map}
 use Rattle.selector.specs.Automaton.{coordinate, stepped}
 use Rattle.selector.specs.Layers.{Products, leading_to, state_at}
@@ -27,9 +27,9 @@ loop-layer-preserved g c carry less =
     let r = coordinate K row (layer - 1) in
     let z = coordinate K dense (layer - 1) in
     let states = state_at K v c.loop-layer.states in
-    let products = subst (λ x. Products K v x z c.layer-of-products.result) c.coordinate-at.ensures (subst (λ x. Products K v (v c.coordinate-at.result) x c.layer-of-products.result) c.coordinate-at-in-loop-layer.ensures c.layer-of-products.ensures) in
+    let products = subst (λ x. Products K v x z c.layer_of-products.result) c.coordinate_at.ensures (subst (λ x. Products K v (v c.coordinate_at.result) x c.layer_of-products.result) c.coordinate_at-in-loop-layer.ensures c.layer_of-products.ensures) in
     c.step-states.ensures r z products carry less
-    ∙ ap₂ (λ s e. stepped K r z s e states carry less) c.bit-at.ensures c.bit-at-in-loop-layer.ensures
+    ∙ ap₂ (λ s e. stepped K r z s e states carry less) c.bit_at.ensures c.bit_at-in-loop-layer.ensures
     ∙ run_step K g.met.R.Ring.lawful row dense c.args.start c.args.end layer states (omega arith) (omega arith) c.loop-layer.invariant carry less
 
 pub returns : goal.returns

@@ -1,4 +1,4 @@
-use Rattle.std.proofs.Common.{◌≡◌, map, sym, ap, ◌∙◌, ap₂, add-one, arith}
+use Rattle.std.proofs.Common.{map, sym, ap, ◌∙◌, ap₂, add-one, arith}
 use Rattle.std.proofs.lemmas.List.{get_or-map}
 use Rattle.selector.specs.Layers.{leading_to}
 use Rattle.selector.proofs.evaluation.leading_of.Goals as goal

@@ -1,4 +1,4 @@
-use Rattle.std.proofs.Common.{◌≡◌, ◌-◌, map, length, ap, ◌∙◌, arith, length-drop, length-take}
+use Rattle.std.proofs.Common.{◌≡◌, ◌-◌, length, ◌∙◌, arith, length-drop, length-take}
 use Rattle.std.proofs.lemmas.Slice.{drop-put_mid}
 use Rattle.selector.proofs.Places.{map_below, map_in}
 use Rattle.selector.proofs.tables.fill_column.Goals as goal

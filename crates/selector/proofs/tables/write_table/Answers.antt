@@ -1,4 +1,4 @@
-use Rattle.std.proofs.Common.{◌≡◌, ◌+◌, ◌-◌, ◌≤◌, drop, sym, ap, ◌∙◌, arith, drop-drop}
+use Rattle.std.proofs.Common.{◌≡◌, ◌+◌, ◌-◌, drop, sym, ap, ◌∙◌, arith, drop-drop}
 use Rattle.layout.specs.Layout.{shape}
 use Rattle.layout.specs.Shape.{start, columns, area, capacity}
 use Rattle.layout.proofs.Shapes.{start_more, area-start}
@@ -8,17 +8,17 @@ use Rattle.selector.proofs.tables.write_table.Goals as goal
 pub returns : goal.returns
 returns g c =
     let S = shape c.args.layout.now in
-    let room = c.fill-columns.ensures.lawful.covered in
+    let room = c.fill_columns.ensures.lawful.covered in
     let split : area S + (capacity S - area S) ≡ capacity S = omega arith in
     record {
       cells = record {
         live = λ y r inside short.
             let next = start_more S y inside in
             let last = start_mono S (y + 1) (columns S) (omega arith) (omega arith) in
-            c.blank.ensures.low (start S y + r) (omega (arith, area-start S)) ∙ c.fill-columns.ensures.live y r inside short;
+            c.blank.ensures.low (start S y + r) (omega (arith, area-start S)) ∙ c.fill_columns.ensures.live y r inside short;
         padding = λ i from to. c.blank.ensures.zero i (omega arith) (omega arith);
       };
       kept =
-          ap (λ n. drop n c.blank.new.buffer) (sym c.dense-capacity.ensures) ∙ c.blank.ensures.kept ∙ ap (λ n. drop n c.fill-columns.new.buffer) c.dense-capacity.ensures
-          ∙ ap (λ n. drop n c.fill-columns.new.buffer) (sym split) ∙ sym (drop-drop (capacity S - area S) (area S) c.fill-columns.new.buffer) ∙ ap (drop (capacity S - area S)) c.fill-columns.ensures.kept ∙ drop-drop (capacity S - area S) (area S) c.args.buffer.now ∙ ap (λ n. drop n c.args.buffer.now) split;
+          ap (λ n. drop n c.blank.new.buffer) (sym c.dense_capacity.ensures) ∙ c.blank.ensures.kept ∙ ap (λ n. drop n c.fill_columns.new.buffer) c.dense_capacity.ensures
+          ∙ ap (λ n. drop n c.fill_columns.new.buffer) (sym split) ∙ sym (drop-drop (capacity S - area S) (area S) c.fill_columns.new.buffer) ∙ ap (drop (capacity S - area S)) c.fill_columns.ensures.kept ∙ drop-drop (capacity S - area S) (area S) c.args.buffer.now ∙ ap (λ n. drop n c.args.buffer.now) split;
     }

@@ -1,7 +1,7 @@
 use Rattle.std.proofs.Common.{◌≡◌, ◌+◌, ◌-◌, ◌/◌, ◌^◌, map, length, sym, ap, ◌∙◌, ap₂, div-one, add-one, arith}
 use native.Mathlib.Nat.{div-eq_of_lt}
 use Rattle.std.proofs.lemmas.List.{get_or-map, length-map}
-use Rattle.selector.specs.Weights.{factor, bit}
+use Rattle.selector.specs.Weights.{factor}
 use Rattle.selector.proofs.Fronts.{front}
 use Rattle.selector.proofs.Runs.{front_at}
 use Rattle.selector.proofs.weights.weight_at.Goals as goal
@@ -22,7 +22,7 @@ loop-k-preserved g c =
     let width = length point in
     let k = c.loop-k.k in
     c.times-product.ensures
-    ∙ ap₂ K.times c.loop-k.invariant (c.factor-of.ensures ∙ ap₂ (factor K) c.bit-at.ensures (ap v c.index-point-k.is ∙ sym (get_or-map v point k c.index-point-k.result K.one (omega arith))))
+    ∙ ap₂ K.times c.loop-k.invariant (c.factor_of.ensures ∙ ap₂ (factor K) c.bit_at.ensures (ap v c.index-point-k.is ∙ sym (get_or-map v point k c.index-point-k.result K.one (omega arith))))
     ∙ sym (front_at K g.met.R.Ring.lawful (map v point) c.args.index width k (omega arith))
     ∙ ap (λ j. front K (map v point) j (c.args.index / 2 ^ (width - (k + 1)))) (sym (add-one k))
 
