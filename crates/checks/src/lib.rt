@@ -1,5 +1,6 @@
 // Worked examples of the layers: proved of the definitions, and run over the public calls.
 #![tactic(auto)]
+
 ghost use Rattle.std.specs.Prelude.{◌≡◌};
 ghost use Rattle.checks.specs.Traces.{Traces};
 

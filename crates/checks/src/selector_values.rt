@@ -19,7 +19,7 @@ fn minus<R: Ring>(n: u32) -> R {
 
 // Heights 2 and 1 with one row variable, at row (3) and column (5), then at the dense point (7, 2).
 macro_rules! worked {
-    ($kind:ty) => {{
+    ($rt:ident, $kind:ty) => {{
         let mut layout = JaggedLayout::empty();
         layout.new(1, &[2, 1])?;
         let row: [$kind; 1] = [number(3)];
@@ -27,47 +27,51 @@ macro_rules! worked {
         let point = JaggedPoint::new(&row, &column);
         let mut cells: [$kind; 5] = [number(9); 5];
         table(&layout, &point, &mut cells)?;
-        check(cells[0] == number(8) && cells[1] == minus(12) && cells[2] == minus(10))?;
-        check(cells[3] == number(0) && cells[4] == number(9))?;
+        assert!($rt; cells[0] == number(8) && cells[1] == minus(12) && cells[2] == minus(10));
+        assert!($rt; cells[3] == number(0) && cells[4] == number(9));
         let dense: [$kind; 2] = [number(7), number(2)];
-        check(evaluate(&layout, &point, &dense)? == number(262))
+        assert!($rt; evaluate(&layout, &point, &dense)? == number(262));
     }};
 }
 
 // A corner of the cube selects one cell: the last row of a column that ends at the capacity.
 macro_rules! corner {
-    ($kind:ty) => {{
+    ($rt:ident, $kind:ty) => {{
         let mut layout = JaggedLayout::empty();
         layout.new(2, &[1, 3])?;
         let row: [$kind; 2] = [number(1), number(0)];
         let column: [$kind; 1] = [number(1)];
         let dense: [$kind; 2] = [number(1), number(1)];
-        check(evaluate(&layout, &JaggedPoint::new(&row, &column), &dense)? == number(1))
+        assert!($rt; evaluate(&layout, &JaggedPoint::new(&row, &column), &dense)? == number(1));
     }};
 }
 
 #[test]
-fn residues() -> Result<(), Fail> {
-    worked!(Residue)?;
-    corner!(Residue)
+fn residues(rt: HostRuntime) -> Result<(), Fail> {
+    worked!(rt, Residue);
+    corner!(rt, Residue);
+    Ok(())
 }
 
 #[test]
-fn words() -> Result<(), Fail> {
-    worked!(Word)?;
-    corner!(Word)
+fn words(rt: HostRuntime) -> Result<(), Fail> {
+    worked!(rt, Word);
+    corner!(rt, Word);
+    Ok(())
 }
 
 #[test]
-fn pairs() -> Result<(), Fail> {
-    worked!(Pair<Residue>)?;
-    corner!(Pair<Residue>)
+fn pairs(rt: HostRuntime) -> Result<(), Fail> {
+    worked!(rt, Pair<Residue>);
+    corner!(rt, Pair<Residue>);
+    Ok(())
 }
 
 #[test]
-fn pairs_of_pairs() -> Result<(), Fail> {
-    worked!(Pair<Pair<Word>>)?;
-    corner!(Pair<Pair<Word>>)
+fn pairs_of_pairs(rt: HostRuntime) -> Result<(), Fail> {
+    worked!(rt, Pair<Pair<Word>>);
+    corner!(rt, Pair<Pair<Word>>);
+    Ok(())
 }
 
 // One empty column and no variables at all.
