@@ -1,12 +1,11 @@
 -- Calls of the selector by their words. Assumes nothing.
-use denote.Slice.{shr_slice_at}
 use Rattle.std.proofs.Common.{◌≡◌, ℕ, ◌-◌, ◌<◌, ◌≤◌, Bool, cond, ltb, List, length, take, drop, Some, None, Option, sym, ap, ◌∙◌, arith, Bor}
 use Rattle.std.specs.Option.{option_map}
 use Rattle.std.proofs.lemmas.List.{drop-map, take_rest}
 use Rattle.std.proofs.lemmas.Bool.{lt-ltb, le-ltb}
 use Rattle.words.specs.Arguments.{and, at}
 use Rattle.words.specs.Cuts.{texts}
-use Rattle.words.proofs.Arguments.{arg, at-slice, long}
+use Rattle.words.proofs.Arguments.{arg, at_slice, long}
 use Rattle.script.specs.declared.call.Kind.{Kind}
 use Rattle.script.specs.Calls.{kind_of}
 use Rattle.script_selector.specs.Calls.{Place, Said, table, evaluate, prefix_says, call_says, meaning}
@@ -26,8 +25,8 @@ module _ (ps : List (Bor (List ℕ))) where
   pub call_told : 2 ≤ length ps → (k : Option Kind) → k ≡ kind_of (arg ps 1) → (o : Option Said) → o ≡ call_says (arg ps 0) (texts (take (length ps - 2) (drop 2 ps))) → and k (λ kind. option_map (λ c. (kind, c)) o) ≡ meaning (texts ps)
   unfolding meaning
   call_told h k ek o eo =
-      let pk = ek ∙ ap kind_of (shr_slice_at ps 1) in
-      let first = shr_slice_at ps 0 in
+      let pk = ek ∙ ap kind_of (at_slice ps 1) in
+      let first = at_slice ps 0 in
       let others = ap texts (take_rest ps 2) ∙ sym (drop-map (λ (q : Bor (List ℕ)). q.now) 2 ps) in
       let po = eo ∙ (λ t. call_says (first t) (others t)) in
       (λ t. and (pk t) (λ kind. option_map (λ c. (kind, c)) (po t)))

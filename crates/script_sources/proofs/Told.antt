@@ -1,5 +1,4 @@
 -- Records, tables and calls by their words. Assumes nothing.
-use denote.Slice.{shr_slice_at}
 use Rattle.std.proofs.Common.{◌≡◌, ℕ, ◌+◌, ◌-◌, ◌<◌, ◌≤◌, Bool, true, false, cond, eqb, List, [], ◌∷◌, ◌++◌, length, get_or, take, drop, replicate, Some, None, codes, Option, sym, refl, ap, ◌∙◌, append_assoc, append-nil, arith, length-append, Bor}
 use Rattle.std.specs.Str.{bytes_eq}
 use Rattle.std.proofs.lemmas.List.{take_rest, drop-map, replicate_more, at_drop_more, at_drop_all, get_or-map, length-map}
@@ -9,7 +8,7 @@ use Rattle.words.specs.declared.split.Mark.TheVariants.{Star, Semicolon}
 use Rattle.words.specs.Arguments.{and, with, at}
 use Rattle.words.specs.Cuts.{ahead, pieces, texts}
 use Rattle.words.specs.Words.{number_of, provided}
-use Rattle.words.proofs.Arguments.{arg, at-slice, long, count_yes}
+use Rattle.words.proofs.Arguments.{arg, at_slice, long, count_yes}
 use Rattle.words.proofs.Cutting.{nothing}
 use Rattle.script_sources.specs.Calls.{Said, CellsSaid, order_says, height_says, pass_says, heights_says, piece_height_says, read_columns_says, read_committed_says, witness_of_vector_says, witness_of_buffer_says, write_piece_says}
 use Rattle.script_sources.specs.Tables.{max_table, dense_says, interleaved_says, bits_says, chunked_says, headed, record_of, times, run_of, after, runs_of, short, table_of}
@@ -22,22 +21,22 @@ module _ (ps : Slices) {A B C D E : Type 0} (f : List ℕ → Option A) (h : Lis
   module _ {G : Type 0} (g : A → B → C → D → E → Option G) where
     pub five_told : length ps ≡ 5 → (a : Option A) → a ≡ f (arg ps 0) → (b : Option B) → b ≡ h (arg ps 1) → (c : Option C) → c ≡ k (arg ps 2) → (d : Option D) → d ≡ l (arg ps 3) → (e : Option E) → e ≡ m (arg ps 4) → and a (λ v. and b (λ w. and c (λ x. and d (λ y. and e (g v w x y))))) ≡ with 5 (texts ps) (and (f (at (texts ps) 0)) (λ v. and (h (at (texts ps) 1)) (λ w. and (k (at (texts ps) 2)) (λ x. and (l (at (texts ps) 3)) (λ y. and (m (at (texts ps) 4)) (g v w x y))))))
     five_told n a ea b eb c ec d ed e ee =
-        let pa = ea ∙ ap f (shr_slice_at ps 0) in
-        let pb = eb ∙ ap h (shr_slice_at ps 1) in
-        let pc = ec ∙ ap k (shr_slice_at ps 2) in
-        let pd = ed ∙ ap l (shr_slice_at ps 3) in
-        let pe = ee ∙ ap m (shr_slice_at ps 4) in
+        let pa = ea ∙ ap f (at_slice ps 0) in
+        let pb = eb ∙ ap h (at_slice ps 1) in
+        let pc = ec ∙ ap k (at_slice ps 2) in
+        let pd = ed ∙ ap l (at_slice ps 3) in
+        let pe = ee ∙ ap m (at_slice ps 4) in
         (λ t. and (pa t) (λ v. and (pb t) (λ w. and (pc t) (λ x. and (pd t) (λ y. and (pe t) (g v w x y)))))) ∙ count_yes ps 5 _ n
 
   module _ {F G : Type 0} (o : List ℕ → Option F) (g : A → B → C → D → E → F → Option G) where
     pub six_told : length ps ≡ 6 → (a : Option A) → a ≡ f (arg ps 0) → (b : Option B) → b ≡ h (arg ps 1) → (c : Option C) → c ≡ k (arg ps 2) → (d : Option D) → d ≡ l (arg ps 3) → (e : Option E) → e ≡ m (arg ps 4) → (r : Option F) → r ≡ o (arg ps 5) → and a (λ v. and b (λ w. and c (λ x. and d (λ y. and e (λ z. and r (g v w x y z)))))) ≡ with 6 (texts ps) (and (f (at (texts ps) 0)) (λ v. and (h (at (texts ps) 1)) (λ w. and (k (at (texts ps) 2)) (λ x. and (l (at (texts ps) 3)) (λ y. and (m (at (texts ps) 4)) (λ z. and (o (at (texts ps) 5)) (g v w x y z)))))))
     six_told n a ea b eb c ec d ed e ee r er =
-        let pa = ea ∙ ap f (shr_slice_at ps 0) in
-        let pb = eb ∙ ap h (shr_slice_at ps 1) in
-        let pc = ec ∙ ap k (shr_slice_at ps 2) in
-        let pd = ed ∙ ap l (shr_slice_at ps 3) in
-        let pe = ee ∙ ap m (shr_slice_at ps 4) in
-        let pr = er ∙ ap o (shr_slice_at ps 5) in
+        let pa = ea ∙ ap f (at_slice ps 0) in
+        let pb = eb ∙ ap h (at_slice ps 1) in
+        let pc = ec ∙ ap k (at_slice ps 2) in
+        let pd = ed ∙ ap l (at_slice ps 3) in
+        let pe = ee ∙ ap m (at_slice ps 4) in
+        let pr = er ∙ ap o (at_slice ps 5) in
         (λ t. and (pa t) (λ v. and (pb t) (λ w. and (pc t) (λ x. and (pd t) (λ y. and (pe t) (λ z. and (pr t) (g v w x y z))))))) ∙ count_yes ps 6 _ n
 
 -- a first word and those after it
@@ -50,7 +49,7 @@ module _ {B : Type 0} (says : List ℕ → List (List ℕ) → Option B) (ps : S
 
   pub headed_some : eqb (length ps) 0 ≡ false → (o : Option B) → o ≡ says (arg ps 0) (texts (take (length ps - 1) (drop 1 ps))) → o ≡ headed says (texts ps)
   headed_some e o told =
-      let first = shr_slice_at ps 0 in
+      let first = at_slice ps 0 in
       let rest = ap texts (take_rest ps 1) ∙ sym (drop-map (λ (q : Bor (List ℕ)). q.now) 1 ps) in
       told ∙ (λ t. says (first t) (rest t)) ∙ sym (ap (λ n. by (eqb n 0)) (long ps) ∙ ap by e)
 
