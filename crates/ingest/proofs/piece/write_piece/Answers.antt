@@ -1,4 +1,4 @@
-use Rattle.std.proofs.Common.{◌≡◌, map, length, Err, sym, refl, ap, ◌∙◌, arith}
+use Rattle.std.proofs.Common.{map, length, Err, sym, refl, ap, ◌∙◌, arith}
 use Rattle.std.proofs.lemmas.Result.{MatchResult-from_err, err_from_is_err_and, IfOk-from_err}
 use Rattle.ring.specs.Bytes.{over}
 use Rattle.ring.proofs.Verdicts.{passed_from_ok}

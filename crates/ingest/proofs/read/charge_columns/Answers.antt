@@ -1,4 +1,4 @@
-use Rattle.std.proofs.Common.{◌≡◌, ◌+◌, ◌^◌, ◌<◌, ◌≤◌, map, sum, sym, refl, ap, ◌∙◌, arith}
+use Rattle.std.proofs.Common.{◌≡◌, ◌+◌, ◌^◌, ◌<◌, ◌≤◌, map, sum, sym, ap, ◌∙◌, arith}
 use Rattle.std.specs.List.{range_with_len}
 use Rattle.std.proofs.lemmas.Nat.{pow_below}
 use Rattle.std.proofs.lemmas.List.FromFn.{sum_by-map-range_with_len_more}
@@ -7,7 +7,7 @@ use Rattle.layout.specs.Layout.{shape}
 use Rattle.layout.specs.Shape.{columns, height, start, area, capacity}
 use Rattle.layout.proofs.Shapes.{all_lawful, start_more}
 use Rattle.ingest.specs.declared.record.ConversionPass.TheVariants.{Shared, Copied, Gathered, Widened}
-use Rattle.ingest.specs.Charges.{charged_of, charge}
+use Rattle.ingest.specs.Charges.{charge}
 use Rattle.ingest.specs.Table.{pass_of}
 use Rattle.ingest.proofs.Passings.{expected_is}
 use Rattle.ingest.proofs.read.charge_columns.Goals as goal

@@ -1,4 +1,4 @@
-use Rattle.std.proofs.Common.{◌≡◌, ◌^◌, Err, sym, ap, ◌∙◌, arith}
+use Rattle.std.proofs.Common.{◌^◌, Err, sym, ap, ◌∙◌}
 use Rattle.std.proofs.lemmas.Result.{err_from_is_err_and}
 use Rattle.std.proofs.lemmas.Bool.{cond-false, eq-eqb, lt-leb, not_from_true}
 use Rattle.ring.proofs.Verdicts.{passed_from_ok, verdict_all}

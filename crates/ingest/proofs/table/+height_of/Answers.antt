@@ -1,6 +1,4 @@
-use Rattle.std.proofs.Common.{◌≡◌, ℕ, ◌+◌, ◌-◌, ◌^◌, ◌<◌, ◌≤◌, length, take, drop, sum, sym, refl, ap, ◌∙◌, subst, arith, rules}
-use Rattle.std.specs.Option.{SomeIff}
-use Rattle.ingest.specs.Order.{record_at}
+use Rattle.std.proofs.Common.{◌≡◌, ◌-◌, ◌<◌, length, take, drop, sum, sym, ap, ◌∙◌, arith, rules}
 use Rattle.ingest.specs.Table.{heights_of, height_of}
 use Rattle.ingest.proofs.Tall.{height_leaf, height_chunk, run_at, part_le}
 use Rattle.ingest.proofs.table.+height_of.Goals as goal

@@ -1,4 +1,4 @@
-use Rattle.std.proofs.Common.{◌≡◌, ◌^◌, ◌<◌, set, ap, ◌∙◌, arith}
+use Rattle.std.proofs.Common.{◌^◌, ◌<◌, set, ap, ◌∙◌, arith}
 use Rattle.ingest.specs.Table.{height_of}
 use Rattle.ingest.proofs.Tall.{height_of_some, put_more}
 use Rattle.ingest.proofs.table.put_heights.Goals as goal

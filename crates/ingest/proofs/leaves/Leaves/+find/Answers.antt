@@ -1,5 +1,5 @@
-use Rattle.std.proofs.Common.{◌≡◌, ◌+◌, ◌-◌, ◌<◌, [], ◌++◌, length, take, drop, sym, refl, ap, ◌∙◌, subst, arith, rules}
-use Rattle.std.proofs.lemmas.List.{append_assoc, append-nil, length-append, length-set, length-take-le, take_more_set}
+use Rattle.std.proofs.Common.{◌≡◌, ◌-◌, ◌<◌, ◌++◌, length, take, drop, sym, ap, ◌∙◌, arith, rules}
+use Rattle.std.proofs.lemmas.List.{append_assoc, length-append}
 use Rattle.ingest.specs.Found.{found}
 use Rattle.ingest.specs.Table.{flat, leaves_of, leaves_at}
 use Rattle.ingest.proofs.Rooms.{leaves_leaf, leaves_chunk, leaves_more, leaves_le}
