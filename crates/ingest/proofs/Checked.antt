@@ -1,5 +1,5 @@
 -- The checks of a record's leaves, part by part. Assumes nothing.
-use Rattle.std.proofs.Common.{◌≡◌, ℕ, ◌+◌, ◌-◌, ◌<◌, ◌≤◌, List, [], ◌∷◌, ◌++◌, length, get_or, take, drop, Err, Result, sym, ap, ◌∙◌, subst, arith}
+use Rattle.std.proofs.Common.{◌≡◌, ℕ, ◌+◌, ◌-◌, ◌<◌, ◌≤◌, List, [], ◌∷◌, ◌++◌, length, take, drop, Err, Result, sym, ap, ◌∙◌, subst, arith}
 use Rattle.ring.specs.Checks.{Check, verdict, Passed}
 use Rattle.ring.proofs.Verdicts.{verdict-passed, verdict_refused}
 use Rattle.ingest.specs.declared.fault.LeafError.{LeafError}

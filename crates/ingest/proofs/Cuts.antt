@@ -1,18 +1,18 @@
 -- Leaves cut and nested in other ways, with the same rows. Assumes nothing.
 use Rattle.std.proofs.Common.{◌≡◌, ℕ, ◌+◌, ◌-◌, ◌*◌, ◌/◌, ◌%◌, ◌^◌, ◌<◌, ◌≤◌, cond, eqb, List, [], ◌∷◌, ◌++◌, map, length, get_or, take, replicate, sym, refl, ap, ◌∙◌, ⊎_elim, add-mul, arith}
 use Rattle.std.proofs.lemmas.List.FromFn.{fill_by_all, get_or-map-range_with_len, length-map-range_with_len}
-use Rattle.std.proofs.lemmas.List.{append_assoc, append-nil, ext_get_or, get_or_append_left, get_or-append_right, get_or-take, length-append, length-take-le}
+use Rattle.std.proofs.lemmas.List.{append_assoc, ext_get_or, get_or_append_left, get_or-append_right, get_or-take, length-append, length-take-le}
 use Rattle.std.proofs.lemmas.Bool.{cases_lt}
 use Rattle.std.specs.List.{range_with_len, flat_map}
 use Rattle.ring.specs.Bytes.{over}
 use Rattle.ring.specs.Operations.{Operations}
 use Rattle.layout.specs.Shape.{Shape, columns, area, capacity}
 use Rattle.ingest.specs.declared.record.Record.{Record}
-use Rattle.ingest.specs.declared.record.Record.TheVariants.{Dense, Interleaved, Bits, Chunked}
+use Rattle.ingest.specs.declared.record.Record.TheVariants.{Bits}
 use Rattle.ingest.specs.Cuts.{leaf_records, Cut, cut_dense, cut_interleaved, cut_bits, Recut, recut_none, recut_one, recut_joined, recut_again, CutsKeepRows, RowLaws, PieceByRows, ColumnsByRows, PieceByCuts, ColumnsByCuts}
 use Rattle.ingest.specs.Order.{record_at}
 use Rattle.ingest.specs.Reading.{assembled}
-use Rattle.ingest.specs.Rows.{leaf_row, leaf_rows, found_rows, rows_of, rows_at}
+use Rattle.ingest.specs.Rows.{leaf_row, leaf_rows, rows_of, rows_at}
 use Rattle.ingest.specs.Table.{Sound, flat, leaves_at}
 use Rattle.ingest.proofs.Parts.{leaves_by_parts, rows_by_parts}
 use Rattle.ingest.proofs.Placed.{rows-at-leaves, rows_long}

@@ -9,7 +9,7 @@ use Rattle.ingest.specs.declared.record.ConversionPass.TheVariants.{Shared, Copi
 use Rattle.ingest.specs.declared.record.Record.{Record}
 use Rattle.ingest.specs.declared.record.Record.TheVariants.{Dense, Interleaved, Bits, Chunked}
 use Rattle.ingest.specs.Order.{record_at}
-use Rattle.ingest.specs.Parts.{by_parts, ByParts, HeightsByParts, LeavesByParts, RowsByParts, HighestPass, PassIs, PassesByParts}
+use Rattle.ingest.specs.Parts.{by_parts, ByParts, HeightsByParts, LeavesByParts, RowsByParts, PassIs, PassesByParts}
 use Rattle.ingest.specs.Passes.{rank_of, higher_of}
 use Rattle.ingest.specs.Rows.{leaf_rows, rows_of}
 use Rattle.ingest.specs.Table.{yields, Sound, flat, leaf_height, heights_of, leaf_pass, highest, passes_of, pass_of, leaves_of}

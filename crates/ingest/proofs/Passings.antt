@@ -1,5 +1,5 @@
 -- A leaf's fault passed up, and columns checked in turn. Assumes nothing.
-use Rattle.std.proofs.Common.{◌≡◌, ℕ, ◌<◌, Bool, true, false, cond, leb, List, [], ◌∷◌, ◌++◌, map, None, Ok, Err, Result, sym, refl, ap, ◌∙◌, arith}
+use Rattle.std.proofs.Common.{◌≡◌, ℕ, ◌<◌, Bool, true, false, leb, List, [], ◌∷◌, ◌++◌, map, None, Ok, Err, Result, ap, ◌∙◌, arith}
 use Rattle.ring.specs.Checks.{Check, verdict, when, Passed}
 use Rattle.ingest.specs.declared.fault.JaggedIngestError.{JaggedIngestError}
 use Rattle.ingest.specs.declared.fault.LeafError.{LeafError}

@@ -2,7 +2,7 @@
 use Rattle.std.proofs.Common.{◌≡◌, ℕ, zero, suc, ◌+◌, ◌-◌, ◌<◌, ◌≤◌, Bool, true, false, ◌&&◌, ltb, List, [], ◌∷◌, ◌++◌, length, get_or, take, drop, replicate, is_some, Some, None, Ok, sum, Option, Result, sym, refl, ap, ◌∙◌, subst, add-one, arith}
 use Rattle.std.proofs.lemmas.List.{append_assoc, append-nil, ext_get_or, get_or_append_left, get_or-append_right, get_or-take, length-append, length-take-le, take-take}
 use Rattle.std.proofs.lemmas.List.Sums.{sum_by-cons}
-use Rattle.std.proofs.lemmas.Bool.{and_cases, both_ways, eqb-true, lt-ltb, ltb-false, not-false}
+use Rattle.std.proofs.lemmas.Bool.{both_ways, eqb-true, lt-ltb, ltb-false, not-false}
 use Rattle.ring.specs.Checks.{Check, Passed, verdict}
 use Rattle.ring.specs.Operations.{Operations}
 use Rattle.ring.proofs.Verdicts.{passed-at, passed_from_ok, passed_left, passed_right}

@@ -1,6 +1,6 @@
 -- The leaves of a record, part by part, and how many leaves a table can have. Assumes nothing.
-use Rattle.std.proofs.Common.{◌≡◌, ℕ, zero, suc, ◌+◌, ◌-◌, ◌<◌, ◌≤◌, List, [], ◌∷◌, ◌++◌, length, get_or, take, drop, None, sym, refl, ap, ◌∙◌, subst, arith, take-add}
-use Rattle.std.proofs.lemmas.List.{append_assoc, drop-drop, drop_more, length-append, take-take}
+use Rattle.std.proofs.Common.{◌≡◌, ℕ, zero, suc, ◌+◌, ◌-◌, ◌<◌, ◌≤◌, List, [], ◌∷◌, ◌++◌, length, take, drop, None, sym, refl, ap, ◌∙◌, subst, arith, take-add}
+use Rattle.std.proofs.lemmas.List.{drop-drop, drop_more, length-append, take-take}
 use Rattle.ingest.specs.declared.record.Record.{Record}
 use Rattle.ingest.specs.declared.record.Record.TheVariants.{Dense, Interleaved, Bits, Chunked}
 use Rattle.ingest.specs.Order.{max_records, record_at, run_end, wrong_from, wrong_record}

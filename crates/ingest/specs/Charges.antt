@@ -1,6 +1,5 @@
 -- What a report charges to each pass, and what a reading is to be charged. Assumes nothing.
-use Rattle.std.specs.Prelude.{◌≡◌, ℕ, ◌-◌, cond, Ok, Err, Result, ◌==◌}
-use Rattle.std.specs.List.{range_with_len}
+use Rattle.std.specs.Prelude.{◌≡◌, ℕ, cond, Ok, Err, Result, ◌==◌}
 use Rattle.layout.specs.Shape.{Shape, area}
 use Rattle.ingest.specs.declared.account.IngestReport.{IngestReport}
 use Rattle.ingest.specs.declared.record.ConversionPass.{ConversionPass}

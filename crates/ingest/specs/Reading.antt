@@ -1,5 +1,5 @@
 -- What is checked where columns are read, in order, and what the dense vector and the report then hold. Assumes nothing.
-use Rattle.std.specs.Prelude.{◌≡◌, ℕ, ◌+◌, ◌-◌, ◌<◌, not, List, [], ◌∷◌, ◌++◌, map, length, take, replicate, sum, ◌==◌, slice_index_or}
+use Rattle.std.specs.Prelude.{◌≡◌, ℕ, ◌+◌, ◌-◌, ◌<◌, not, List, ◌∷◌, ◌++◌, map, length, take, replicate, sum, ◌==◌, slice_index_or}
 use Rattle.std.specs.List.{range_with_len, flat_map}
 use Rattle.ring.specs.Checks.{Check, when}
 use Rattle.ring.specs.Operations.{Operations}

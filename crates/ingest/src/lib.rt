@@ -1,5 +1,6 @@
 // Reading a trace: record tables over the caller's memory, the dense vector that they are written to, and the witness.
 #![tactic(auto)]
+
 mod account;
 mod fault;
 mod find;

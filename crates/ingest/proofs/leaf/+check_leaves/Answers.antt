@@ -1,4 +1,4 @@
-use Rattle.std.proofs.Common.{◌≡◌, ◌+◌, ◌-◌, ◌<◌, length, take, drop, Ok, Err, sym, refl, ap, ◌∙◌, subst, arith, rules}
+use Rattle.std.proofs.Common.{◌≡◌, ◌-◌, ◌<◌, length, take, drop, Err, sym, ap, ◌∙◌, subst, arith, rules}
 use Rattle.std.proofs.lemmas.Result.{err_from_is_err_and}
 use Rattle.ring.specs.Checks.{Passed, verdict}
 use Rattle.ring.proofs.Verdicts.{passed_from_ok, verdict_all}
@@ -6,20 +6,20 @@ use Rattle.ingest.specs.Leaves.{checks_of, checks_at}
 use Rattle.ingest.specs.Table.{flat}
 use Rattle.ingest.proofs.Checked.{checks_leaf, checks_chunk, parts-passed, part_refused}
 use Rattle.ingest.proofs.leaf.+check_leaves.Goals as goal
-use Rattle.ingest.proofs.leaf.+check_leaves.Goals.{in-Chunked-table+in-ok-check-leaves, in-default-table+in-ok-check-leaf}
+use Rattle.ingest.proofs.leaf.+check_leaves.Goals.{in-Chunked-table+in_ok-check_leaves-in-Chunked-table, in_default-table+in_ok-check_leaf-in_default-table}
 
-pub overflow-add-part-end : goal.overflow-add-part-end
-overflow-add-part-end t c = let s = c.requires.sound c.args.record c.in-Chunked.from c.in-Chunked.count c.requires.within c.in-Chunked.is in omega arith
+pub overflow_add-part-end : goal.overflow_add-part-end
+overflow_add-part-end t c = let s = c.requires.sound c.args.record c.in-Chunked.from c.in-Chunked.count c.requires.within c.in-Chunked.is in omega arith
 
-pub check-leaves-requires : goal.check-leaves-requires
-check-leaves-requires t c =
+pub check_leaves-requires : goal.check_leaves-requires
+check_leaves-requires t c =
     let s = c.requires.sound c.args.record c.in-Chunked.from c.in-Chunked.count c.requires.within c.in-Chunked.is in
     (omega (arith, c.decreases), (c.requires.sound, omega arith))
 
 pub loop-part-init : goal.loop-part-init
 loop-part-init t c =
     let e : c.in-Chunked.from - c.in-Chunked.from ≡ 0 = omega arith in
-    subst (λ n. Passed (flat (take n (drop c.in-Chunked.from (checks_of c.args.cells c.args.block-words c.args.column c.args.table.now))))) (sym e) tt
+    subst (λ n. Passed (flat (take n (drop c.in-Chunked.from (checks_of c.args.cells c.args.block_words c.args.column c.args.table.now))))) (sym e) tt
 
 pub bounds-in-loop-part : goal.bounds-in-loop-part
 bounds-in-loop-part t c =
@@ -31,48 +31,48 @@ bounds-table-part t c =
     let s = c.requires.sound c.args.record c.in-Chunked.from c.in-Chunked.count c.requires.within c.in-Chunked.is in
     omega arith
 
-pub offset-bounds-table-part : goal.offset-bounds-table-part
-offset-bounds-table-part t c =
+pub offset_bounds-table-part : goal.offset_bounds-table-part
+offset_bounds-table-part t c =
     let s = c.requires.sound c.args.record c.in-Chunked.from c.in-Chunked.count c.requires.within c.in-Chunked.is in
     let h : c.loop-part.part < length c.args.table.now = omega arith in
     search rules
 
-pub returns-in-err-check-leaf : goal.returns-in-err-check-leaf
-returns-in-err-check-leaf t c =
+pub returns-in_err-check_leaf-in_default-table : goal.returns-in_err-check_leaf-in_default-table
+returns-in_err-check_leaf-in_default-table t c =
     let s = c.requires.sound c.args.record c.in-Chunked.from c.in-Chunked.count c.requires.within c.in-Chunked.is in
-    let whole = checks_chunk c.args.cells c.args.block-words c.args.column c.args.table.now c.args.record _ _ c.requires.within c.in-Chunked.is s.0 in
-    let one = ap (λ l. verdict l tt) (checks_leaf c.args.cells c.args.block-words c.args.column c.args.table.now c.loop-part.part (omega arith) c.in-default-table.not-Chunked) in
-    let p = err_from_is_err_and c.from-residual-in-err-check-leaf.result c.from-residual-in-err-check-leaf.ensures.1 in
-    p.1 ∙ ap Err p.2 ∙ sym (part_refused c.args.cells c.args.block-words c.args.column c.args.table.now c.args.record c.in-Chunked.from c.in-Chunked.count c.loop-part.part _ whole (omega arith) (omega arith) s.1 c.loop-part.invariant (one ∙ sym c.check-leaf.ensures ∙ c.in-err-check-leaf.was))
+    let whole = checks_chunk c.args.cells c.args.block_words c.args.column c.args.table.now c.args.record _ _ c.requires.within c.in-Chunked.is s.0 in
+    let one = ap (λ l. verdict l tt) (checks_leaf c.args.cells c.args.block_words c.args.column c.args.table.now c.loop-part.part (omega arith) c.in_default-table.not-Chunked) in
+    let p = err_from_is_err_and c.from_residual-in_err-check_leaf-in_default-table.result c.from_residual-in_err-check_leaf-in_default-table.ensures.1 in
+    p.1 ∙ ap Err p.2 ∙ sym (part_refused c.args.cells c.args.block_words c.args.column c.args.table.now c.args.record c.in-Chunked.from c.in-Chunked.count c.loop-part.part _ whole (omega arith) (omega arith) s.1 c.loop-part.invariant (one ∙ sym c.check_leaf.ensures ∙ c.in_err-check_leaf-in_default-table.was))
 
-pub returns-in-err-check-leaves : goal.returns-in-err-check-leaves
-returns-in-err-check-leaves t c =
+pub returns-in_err-check_leaves-in-Chunked-table : goal.returns-in_err-check_leaves-in-Chunked-table
+returns-in_err-check_leaves-in-Chunked-table t c =
     let s = c.requires.sound c.args.record c.in-Chunked.from c.in-Chunked.count c.requires.within c.in-Chunked.is in
-    let whole = checks_chunk c.args.cells c.args.block-words c.args.column c.args.table.now c.args.record _ _ c.requires.within c.in-Chunked.is s.0 in
-    let p = err_from_is_err_and c.from-residual.result c.from-residual.ensures.1 in
-    p.1 ∙ ap Err p.2 ∙ sym (part_refused c.args.cells c.args.block-words c.args.column c.args.table.now c.args.record c.in-Chunked.from c.in-Chunked.count c.loop-part.part _ whole (omega arith) (omega arith) s.1 c.loop-part.invariant (sym c.check-leaves.ensures ∙ c.in-err-check-leaves.was))
+    let whole = checks_chunk c.args.cells c.args.block_words c.args.column c.args.table.now c.args.record _ _ c.requires.within c.in-Chunked.is s.0 in
+    let p = err_from_is_err_and c.from_residual.result c.from_residual.ensures.1 in
+    p.1 ∙ ap Err p.2 ∙ sym (part_refused c.args.cells c.args.block_words c.args.column c.args.table.now c.args.record c.in-Chunked.from c.in-Chunked.count c.loop-part.part _ whole (omega arith) (omega arith) s.1 c.loop-part.invariant (sym c.check_leaves.ensures ∙ c.in_err-check_leaves-in-Chunked-table.was))
 
 pub loop-part-preserved : goal.loop-part-preserved
 loop-part-preserved t c =
     let s = c.requires.sound c.args.record c.in-Chunked.from c.in-Chunked.count c.requires.within c.in-Chunked.is in
-    let here : Passed (checks_at c.args.cells c.args.block-words c.args.column c.args.table.now c.loop-part.part) =
+    let here : Passed (checks_at c.args.cells c.args.block_words c.args.column c.args.table.now c.loop-part.part) =
     elim c.match-table-part.branch [
-      | in-Chunked-table+in-ok-check-leaves w ↦ passed_from_ok (checks_at c.args.cells c.args.block-words c.args.column c.args.table.now c.loop-part.part) tt tt (sym w.check-leaves.ensures ∙ w.in-ok-check-leaves.was)
-      | in-default-table+in-ok-check-leaf w ↦
-          let one = ap (λ l. verdict l tt) (checks_leaf c.args.cells c.args.block-words c.args.column c.args.table.now c.loop-part.part (omega arith) w.in-default-table.not-Chunked) in
-          passed_from_ok (checks_at c.args.cells c.args.block-words c.args.column c.args.table.now c.loop-part.part) tt tt (one ∙ sym w.check-leaf.ensures ∙ w.in-ok-check-leaf.was)
+      | in-Chunked-table+in_ok-check_leaves-in-Chunked-table w ↦ passed_from_ok (checks_at c.args.cells c.args.block_words c.args.column c.args.table.now c.loop-part.part) tt tt (sym w.check_leaves.ensures ∙ w.in_ok-check_leaves-in-Chunked-table.was)
+      | in_default-table+in_ok-check_leaf-in_default-table w ↦
+          let one = ap (λ l. verdict l tt) (checks_leaf c.args.cells c.args.block_words c.args.column c.args.table.now c.loop-part.part (omega arith) w.in_default-table.not-Chunked) in
+          passed_from_ok (checks_at c.args.cells c.args.block_words c.args.column c.args.table.now c.loop-part.part) tt tt (one ∙ sym w.check_leaf.ensures ∙ w.in_ok-check_leaf-in_default-table.was)
     ] in
-    parts-passed c.args.cells c.args.block-words c.args.column c.args.table.now c.in-Chunked.from c.loop-part.part (omega arith) (omega arith) c.loop-part.invariant here
+    parts-passed c.args.cells c.args.block_words c.args.column c.args.table.now c.in-Chunked.from c.loop-part.part (omega arith) (omega arith) c.loop-part.invariant here
 
 pub returns-after-loop-part : goal.returns-after-loop-part
 returns-after-loop-part t c =
     let s = c.requires.sound c.args.record c.in-Chunked.from c.in-Chunked.count c.requires.within c.in-Chunked.is in
-    let whole = checks_chunk c.args.cells c.args.block-words c.args.column c.args.table.now c.args.record _ _ c.requires.within c.in-Chunked.is s.0 in
+    let whole = checks_chunk c.args.cells c.args.block_words c.args.column c.args.table.now c.args.record _ _ c.requires.within c.in-Chunked.is s.0 in
     let end : c.loop-part.part - c.in-Chunked.from ≡ c.in-Chunked.count = omega arith in
-    let every = subst (λ n. Passed (flat (take n (drop c.in-Chunked.from (checks_of c.args.cells c.args.block-words c.args.column c.args.table.now))))) end c.loop-part.invariant in
-    sym (verdict_all (checks_at c.args.cells c.args.block-words c.args.column c.args.table.now c.args.record) tt (subst Passed (sym whole) every))
+    let every = subst (λ n. Passed (flat (take n (drop c.in-Chunked.from (checks_of c.args.cells c.args.block_words c.args.column c.args.table.now))))) end c.loop-part.invariant in
+    sym (verdict_all (checks_at c.args.cells c.args.block_words c.args.column c.args.table.now c.args.record) tt (subst Passed (sym whole) every))
 
-pub returns-in-default : goal.returns-in-default
-returns-in-default t c =
-    c.check-leaf-in-default.ensures
-    ∙ sym (ap (λ l. verdict l tt) (checks_leaf c.args.cells c.args.block-words c.args.column c.args.table.now c.args.record c.requires.within c.in-default.not-Chunked))
+pub returns-in_default : goal.returns-in_default
+returns-in_default t c =
+    c.check_leaf-in_default.ensures
+    ∙ sym (ap (λ l. verdict l tt) (checks_leaf c.args.cells c.args.block_words c.args.column c.args.table.now c.args.record c.requires.within c.in_default.not-Chunked))

@@ -1,4 +1,4 @@
-use Rattle.std.proofs.Common.{◌≡◌, ◌+◌, ◌^◌, ◌<◌, ◌≤◌, map, sum, sym, refl, ap, ◌∙◌, arith}
+use Rattle.std.proofs.Common.{◌≡◌, ◌+◌, ◌^◌, ◌<◌, ◌≤◌, map, sum, sym, ap, ◌∙◌, arith}
 use Rattle.std.specs.List.{range_with_len}
 use Rattle.std.proofs.lemmas.Nat.{pow_below}
 use Rattle.std.proofs.lemmas.List.FromFn.{sum_by-map-range_with_len_more}
@@ -7,13 +7,13 @@ use Rattle.layout.specs.Layout.{shape}
 use Rattle.layout.specs.Shape.{columns, height, start, area, capacity}
 use Rattle.layout.proofs.Shapes.{all_lawful, start_more}
 use Rattle.ingest.specs.declared.record.ConversionPass.TheVariants.{Shared, Copied, Gathered, Widened}
-use Rattle.ingest.specs.Charges.{charged_of, charge}
+use Rattle.ingest.specs.Charges.{charge}
 use Rattle.ingest.specs.Table.{pass_of}
 use Rattle.ingest.proofs.Passings.{expected_is}
 use Rattle.ingest.proofs.read.charge_columns.Goals as goal
 
-pub overflow-sub-dense-capacity : goal.overflow-sub-dense-capacity
-overflow-sub-dense-capacity c = let law = all_lawful c.args.layout.now in omega (arith, law.covered)
+pub overflow_sub-dense_capacity : goal.overflow_sub-dense_capacity
+overflow_sub-dense_capacity c = let law = all_lawful c.args.layout.now in omega (arith, law.covered)
 
 pub loop-column-init : goal.loop-column-init
 loop-column-init c =
@@ -26,7 +26,7 @@ charge-requires c =
     let t = c.args.table.now in
     let i = c.loop-column.column in
     let law = all_lawful c.args.layout.now in
-    let same = expected_is S i c.unwrap-rows.result (omega arith) (sym c.column-height.ensures ∙ c.unwrap-rows.ensures) in
+    let same = expected_is S i c.unwrap-rows.result (omega arith) (sym c.column_height.ensures ∙ c.unwrap-rows.ensures) in
     let more = start_more S i (omega arith) in
     let le : start S (i + 1) ≤ area S = sum_by-take-le (λ x. x) S.heights (i + 1) in
     let fits : capacity S < 2 ^ 64 = pow_below S.dense 64 law.dense_fit in
@@ -38,13 +38,13 @@ loop-column-preserved c =
     let t = c.args.table.now in
     let i = c.loop-column.column in
     let law = all_lawful c.args.layout.now in
-    let same = expected_is S i c.unwrap-rows.result (omega arith) (sym c.column-height.ensures ∙ c.unwrap-rows.ensures) in
+    let same = expected_is S i c.unwrap-rows.result (omega arith) (sym c.column_height.ensures ∙ c.unwrap-rows.ensures) in
     let more = start_more S i (omega arith) in
     let le : start S (i + 1) ≤ area S = sum_by-take-le (λ x. x) S.heights (i + 1) in (
       (λ p.
           c.charge.ensures.charges p
-          ∙ ap (λ n. n + charge p c.pass-of.result c.unwrap-rows.result) (c.loop-column.invariant.0 p)
-          ∙ ap (λ q. sum (map (λ y. charge p (pass_of t y) (height S y)) (range_with_len 0 i)) + charge p q c.unwrap-rows.result) c.pass-of.ensures
+          ∙ ap (λ n. n + charge p c.pass_of.result c.unwrap-rows.result) (c.loop-column.invariant.0 p)
+          ∙ ap (λ q. sum (map (λ y. charge p (pass_of t y) (height S y)) (range_with_len 0 i)) + charge p q c.unwrap-rows.result) c.pass_of.ensures
           ∙ ap (λ n. sum (map (λ y. charge p (pass_of t y) (height S y)) (range_with_len 0 i)) + charge p (pass_of t i) n) same
           ∙ sym (sum_by-map-range_with_len_more (λ x. x) (λ y. charge p (pass_of t y) (height S y)) 0 i i (omega arith))),
       omega (arith, c.charge.ensures.whole, c.loop-column.invariant.1),

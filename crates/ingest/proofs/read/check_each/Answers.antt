@@ -10,15 +10,15 @@ use Rattle.ingest.specs.Reading.{one_checks}
 use Rattle.ingest.proofs.Passings.{expected_is}
 use Rattle.ingest.proofs.read.check_each.Goals as goal
 
-pub returns-in-err-check-one : goal.returns-in-err-check-one
-returns-in-err-check-one c =
+pub returns-in_err-check_one : goal.returns-in_err-check_one
+returns-in_err-check_one c =
     let S = shape c.args.layout.now in
     let t = c.args.table.now in
     let i = c.loop-column.column in
     let f : ℕ → List (Check JaggedIngestError) = λ y. one_checks t c.args.cells c.args.words y (height S y) in
-    let p = err_from_is_err_and c.from-residual.result c.from-residual.ensures.1 in
-    let same = expected_is S i c.unwrap-expected.result (omega arith) (sym c.column-height.ensures ∙ c.unwrap-expected.ensures) in
-    let here = ap (λ e. verdict (one_checks t c.args.cells c.args.words i e) tt) (sym same) ∙ sym c.check-one.ensures ∙ c.in-err-check-one.was in
+    let p = err_from_is_err_and c.from_residual.result c.from_residual.ensures.1 in
+    let same = expected_is S i c.unwrap-expected.result (omega arith) (sym c.column_height.ensures ∙ c.unwrap-expected.ensures) in
+    let here = ap (λ e. verdict (one_checks t c.args.cells c.args.words i e) tt) (sym same) ∙ sym c.check_one.ensures ∙ c.in_err-check_one.was in
     p.1 ∙ ap Err p.2 ∙ sym (fails-at f (columns S) i tt tt _ (omega arith) c.loop-column.invariant here)
 
 pub loop-column-preserved : goal.loop-column-preserved
@@ -27,8 +27,8 @@ loop-column-preserved c =
     let t = c.args.table.now in
     let i = c.loop-column.column in
     let f : ℕ → List (Check JaggedIngestError) = λ y. one_checks t c.args.cells c.args.words y (height S y) in
-    let same = expected_is S i c.unwrap-expected.result (omega arith) (sym c.column-height.ensures ∙ c.unwrap-expected.ensures) in
-    let here = ap (λ e. verdict (one_checks t c.args.cells c.args.words i e) tt) (sym same) ∙ sym c.check-one.ensures ∙ c.in-ok-check-one.was in
+    let same = expected_is S i c.unwrap-expected.result (omega arith) (sym c.column_height.ensures ∙ c.unwrap-expected.ensures) in
+    let here = ap (λ e. verdict (one_checks t c.args.cells c.args.words i e) tt) (sym same) ∙ sym c.check_one.ensures ∙ c.in_ok-check_one.was in
     passed_more f i c.loop-column.invariant (passed_from_ok (f i) tt tt here)
 
 pub returns : goal.returns

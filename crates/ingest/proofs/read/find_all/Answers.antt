@@ -1,4 +1,4 @@
-use Rattle.std.proofs.Common.{◌≡◌, ◌++◌, length, sym, ap, ◌∙◌, arith}
+use Rattle.std.proofs.Common.{◌++◌, length, sym, ap, ◌∙◌, arith}
 use Rattle.ingest.specs.Table.{leaves_at}
 use Rattle.ingest.proofs.Orders.{sound, sources_present}
 use Rattle.ingest.proofs.Rooms.{leaves_fit, column_fits, columns_more}

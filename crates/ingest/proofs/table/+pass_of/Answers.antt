@@ -3,13 +3,13 @@ use Rattle.ingest.specs.Passes.{higher_of}
 use Rattle.ingest.specs.Table.{highest, passes_of, pass_of}
 use Rattle.ingest.proofs.Ranks.{pass_leaf, pass_chunk, highest-at}
 use Rattle.ingest.proofs.table.+pass_of.Goals as goal
-use Rattle.ingest.proofs.table.+pass_of.Goals.{in-Chunked-table, in-default-table}
+use Rattle.ingest.proofs.table.+pass_of.Goals.{in-Chunked-table, in_default-table}
 
-pub overflow-add-part-end : goal.overflow-add-part-end
-overflow-add-part-end t c = let s = c.requires.sound c.args.record c.in-Chunked.from c.in-Chunked.count c.requires.within c.in-Chunked.is in omega arith
+pub overflow_add-part-end : goal.overflow_add-part-end
+overflow_add-part-end t c = let s = c.requires.sound c.args.record c.in-Chunked.from c.in-Chunked.count c.requires.within c.in-Chunked.is in omega arith
 
-pub pass-of-pass-requires : goal.pass-of-pass-requires
-pass-of-pass-requires t c =
+pub pass_of-pass-requires : goal.pass_of-pass-requires
+pass_of-pass-requires t c =
     let s = c.requires.sound c.args.record c.in-Chunked.from c.in-Chunked.count c.requires.within c.in-Chunked.is in
     (omega (arith, c.decreases), (c.requires.sound, omega arith))
 
@@ -23,8 +23,8 @@ bounds-table-part t c =
     let s = c.requires.sound c.args.record c.in-Chunked.from c.in-Chunked.count c.requires.within c.in-Chunked.is in
     omega arith
 
-pub offset-bounds-table-part : goal.offset-bounds-table-part
-offset-bounds-table-part t c =
+pub offset_bounds-table-part : goal.offset_bounds-table-part
+offset_bounds-table-part t c =
     let s = c.requires.sound c.args.record c.in-Chunked.from c.in-Chunked.count c.requires.within c.in-Chunked.is in
     let h : c.loop-part.part < length c.args.table.now = omega arith in
     search rules
@@ -35,13 +35,13 @@ loop-part-preserved t c =
     let more = highest-at c.args.table.now c.in-Chunked.from c.loop-part.part (omega arith) (omega arith) in
     let told : c.match-table-part.pass ≡ pass_of c.args.table.now c.loop-part.part =
     elim c.match-table-part.branch [
-      | in-Chunked-table w ↦ w.pass-is ∙ w.pass-of-pass.ensures
-      | in-default-table w ↦ w.pass-is ∙ w.own-pass-pass.ensures ∙ sym (pass_leaf c.args.table.now c.loop-part.part (omega arith) w.in-default-table.not-Chunked)
+      | in-Chunked-table w ↦ w.pass-is ∙ w.pass_of-pass.ensures
+      | in_default-table w ↦ w.pass-is ∙ w.own_pass-pass.ensures ∙ sym (pass_leaf c.args.table.now c.loop-part.part (omega arith) w.in_default-table.not-Chunked)
     ] in
     c.higher-best.ensures ∙ ap (λ p. higher_of p c.match-table-part.pass) c.loop-part.invariant ∙ ap (higher_of (highest (take (c.loop-part.part - c.in-Chunked.from) (drop c.in-Chunked.from (passes_of c.args.table.now))))) told ∙ sym more
 
-pub returns-in-default : goal.returns-in-default
-returns-in-default t c = c.own-pass.ensures ∙ sym (pass_leaf c.args.table.now c.args.record c.requires.within c.in-default.not-Chunked)
+pub returns-in_default : goal.returns-in_default
+returns-in_default t c = c.own_pass.ensures ∙ sym (pass_leaf c.args.table.now c.args.record c.requires.within c.in_default.not-Chunked)
 
 pub returns-after-loop-part : goal.returns-after-loop-part
 returns-after-loop-part t c =

@@ -1,10 +1,10 @@
-use Rattle.std.proofs.Common.{◌≡◌, ◌+◌, length, drop, Some, sym, refl, ap, ◌∙◌, subst, inl, inr, ⊎_elim, arith}
+use Rattle.std.proofs.Common.{◌≡◌, ◌+◌, length, drop, Some, sym, ap, ◌∙◌, inl, inr, ⊎_elim, arith}
 use Rattle.std.proofs.lemmas.Bool.{eq-eqb, ne_eqb}
 use Rattle.ingest.specs.Order.{begins_at, record_at, run_end, wrong_from}
 use Rattle.ingest.proofs.Lowest.{lowest_wrong}
 use Rattle.ingest.proofs.Orders.{leaf_begins, wrong_here, wrong_later, wrong_absent, none_wrong, order_refused, order_passed}
 use Rattle.ingest.proofs.table.check_order.Goals as goal
-use Rattle.ingest.proofs.table.check_order.Goals.{in-Chunked+else-from-next, in-default}
+use Rattle.ingest.proofs.table.check_order.Goals.{in-Chunked+else-from-next, in_default}
 
 pub returns-then-record-next : goal.returns-then-record-next
 returns-then-record-next c =
@@ -24,13 +24,13 @@ loop-record-preserved c =
     let t = c.args.table.now in
     let i = c.loop-record.record in
     let next = c.loop-record.next in
-    let more = wrong_later t i next c.loop-record-test.true c.if-record-next.false c.if-record-ge-MAX-RECORDS.false in
+    let more = wrong_later t i next c.loop-record-test.true c.if-record-next.false c.if-record-ge-MAX_RECORDS.false in
     elim c.match-entry.branch [
       | in-Chunked+else-from-next w ↦
           let begins = ap (begins_at next) w.in-Chunked.is ∙ eq-eqb w.in-Chunked.from next w.if-from-next.false in
           ap (λ n. wrong_from (i + 1) n (drop (i + 1) t)) (w.next-is ∙ sym (ap (run_end next) w.in-Chunked.is)) ∙ sym (more begins) ∙ c.loop-record.invariant
-      | in-default w ↦
-          let leaf = leaf_begins next (record_at t i) w.in-default.not-Chunked in
+      | in_default w ↦
+          let leaf = leaf_begins next (record_at t i) w.in_default.not-Chunked in
           ap (λ n. wrong_from (i + 1) n (drop (i + 1) t)) (w.next-is ∙ sym leaf.1) ∙ sym (more leaf.0) ∙ c.loop-record.invariant
     ]
 

@@ -1,4 +1,4 @@
-use Rattle.std.proofs.Common.{◌≡◌, ℕ, ◌^◌, List, [], ◌∷◌, ◌++◌, length, Err, sym, refl, ap, ◌∙◌, arith}
+use Rattle.std.proofs.Common.{ℕ, ◌^◌, List, [], ◌∷◌, ◌++◌, length, Err, sym, refl, ap, ◌∙◌, arith}
 use Rattle.std.proofs.lemmas.Result.{MatchResult-from_err, err_from_is_err_and}
 use Rattle.std.proofs.lemmas.Bool.{cond-true, cond-false, leb-false, lt-ltb, le-ltb}
 use Rattle.ring.specs.Checks.{Check}
@@ -9,26 +9,26 @@ use Rattle.ingest.specs.Table.{height_of}
 use Rattle.ingest.proofs.Orders.{sound, sources_present, order_none, order_goes}
 use Rattle.ingest.proofs.table.heights.Goals as goal
 
-pub check-heights-requires : goal.check-heights-requires
-check-heights-requires c =
+pub check_heights-requires : goal.check_heights-requires
+check_heights-requires c =
     let t = c.args.table.now in
     let s = c.args.sources in
     let b = length c.args.out.now in
-    let none = order_none t s (sym c.check-order.ensures.answer ∙ c.in-ok-check-order.was) in
+    let none = order_none t s (sym c.check_order.ensures.answer ∙ c.in_ok-check_order.was) in
     let goes = order_goes t s (overflow_checks t s ++ (room_check s b ∷ [])) s none in
     record { sound = sound t s none; present = sources_present t s none }
 
-pub returns-in-err-check-heights : goal.returns-in-err-check-heights
-returns-in-err-check-heights c =
+pub returns-in_err-check_heights : goal.returns-in_err-check_heights
+returns-in_err-check_heights c =
     let t = c.args.table.now in
     let s = c.args.sources in
     let b = length c.args.out.now in
-    let none = order_none t s (sym c.check-order.ensures.answer ∙ c.in-ok-check-order.was) in
+    let none = order_none t s (sym c.check_order.ensures.answer ∙ c.in_ok-check_order.was) in
     let goes = order_goes t s (overflow_checks t s ++ (room_check s b ∷ [])) s none in
-    let p = err_from_is_err_and c.from-residual-in-err-check-heights.result c.from-residual-in-err-check-heights.ensures.1 in
+    let p = err_from_is_err_and c.from_residual-in_err-check_heights.result c.from_residual-in_err-check_heights.ensures.1 in
     record {
-      answer = p.1 ∙ ap Err p.2 ∙ sym (goes ∙ verdict_refused (overflow_checks t s) (room_check s b ∷ []) s tt _ (sym c.check-heights.ensures ∙ c.in-err-check-heights.was));
-      written = MatchResult-from_err c.from-residual-in-err-check-heights.result _ _ c.from-residual-in-err-check-heights.ensures.0 (λ y. refl);
+      answer = p.1 ∙ ap Err p.2 ∙ sym (goes ∙ verdict_refused (overflow_checks t s) (room_check s b ∷ []) s tt _ (sym c.check_heights.ensures ∙ c.in_err-check_heights.was));
+      written = MatchResult-from_err c.from_residual-in_err-check_heights.result _ _ c.from_residual-in_err-check_heights.ensures.0 (λ y. refl);
     }
 
 pub returns-then-out-sources : goal.returns-then-out-sources
@@ -36,20 +36,20 @@ returns-then-out-sources c =
     let t = c.args.table.now in
     let s = c.args.sources in
     let b = length c.args.out.now in
-    let none = order_none t s (sym c.check-order.ensures.answer ∙ c.in-ok-check-order.was) in
+    let none = order_none t s (sym c.check_order.ensures.answer ∙ c.in_ok-check_order.was) in
     let goes = order_goes t s (overflow_checks t s ++ (room_check s b ∷ [])) s none in
-    let passed = passed_from_ok (overflow_checks t s) tt tt (sym c.check-heights.ensures ∙ c.in-ok-check-heights.was) in
+    let passed = passed_from_ok (overflow_checks t s) tt tt (sym c.check_heights.ensures ∙ c.in_ok-check_heights.was) in
     let on = goes ∙ verdict-passed (overflow_checks t s) (room_check s b ∷ []) s passed in
     record { answer = sym (on ∙ cond-true _ _ _ (lt-ltb b s (omega arith))); written = refl }
 
-pub put-heights-requires : goal.put-heights-requires
-put-heights-requires c =
+pub put_heights-requires : goal.put_heights-requires
+put_heights-requires c =
     let t = c.args.table.now in
     let s = c.args.sources in
     let b = length c.args.out.now in
-    let none = order_none t s (sym c.check-order.ensures.answer ∙ c.in-ok-check-order.was) in
+    let none = order_none t s (sym c.check_order.ensures.answer ∙ c.in_ok-check_order.was) in
     let goes = order_goes t s (overflow_checks t s ++ (room_check s b ∷ [])) s none in
-    let passed = passed_from_ok (overflow_checks t s) tt tt (sym c.check-heights.ensures ∙ c.in-ok-check-heights.was) in
+    let passed = passed_from_ok (overflow_checks t s) tt tt (sym c.check_heights.ensures ∙ c.in_ok-check_heights.was) in
     let on = goes ∙ verdict-passed (overflow_checks t s) (room_check s b ∷ []) s passed in
     let f : ℕ → List (Check JaggedIngestError) = λ y. overflow_check t y ∷ [] in
     record {
@@ -64,8 +64,8 @@ returns c =
     let t = c.args.table.now in
     let s = c.args.sources in
     let b = length c.args.out.now in
-    let none = order_none t s (sym c.check-order.ensures.answer ∙ c.in-ok-check-order.was) in
+    let none = order_none t s (sym c.check_order.ensures.answer ∙ c.in_ok-check_order.was) in
     let goes = order_goes t s (overflow_checks t s ++ (room_check s b ∷ [])) s none in
-    let passed = passed_from_ok (overflow_checks t s) tt tt (sym c.check-heights.ensures ∙ c.in-ok-check-heights.was) in
+    let passed = passed_from_ok (overflow_checks t s) tt tt (sym c.check_heights.ensures ∙ c.in_ok-check_heights.was) in
     let on = goes ∙ verdict-passed (overflow_checks t s) (room_check s b ∷ []) s passed in
-    record { answer = sym (on ∙ cond-false _ _ _ (le-ltb b s (omega arith))); written = c.put-heights.ensures }
+    record { answer = sym (on ∙ cond-false _ _ _ (le-ltb b s (omega arith))); written = c.put_heights.ensures }

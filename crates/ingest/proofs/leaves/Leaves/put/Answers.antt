@@ -7,10 +7,10 @@ bounds-self-self c =
     let many = length-take-le c.args.self.now.count c.args.self.now.numbers (omega (arith, c.args.self.now.within, c.args.self.now.long)) in
     omega (arith, c.requires)
 
-pub invariant-of-self : goal.invariant-of-self
-invariant-of-self c =
+pub invariant_of-self : goal.invariant_of-self
+invariant_of-self c =
     let many = length-take-le c.args.self.now.count c.args.self.now.numbers (omega (arith, c.args.self.now.within, c.args.self.now.long)) in
-    (omega (arith, c.requires), (length-set c.args.self.now.numbers c.args.self.now.count c.args.record ∙ c.args.self.now.long, tt))
+    record { within = omega (arith, c.requires); long = length-set c.args.self.now.numbers c.args.self.now.count c.args.record ∙ c.args.self.now.long }
 
 pub returns : goal.returns
 returns c =
