@@ -1,5 +1,5 @@
 -- The selector: the sum that it is, and its table. Assumes nothing.
-use Rattle.std.specs.Prelude.{◌≡◌, ℕ, ◌+◌, ◌<◌, ◌≤◌, List, get_or, slice_index_or}
+use Rattle.std.specs.Prelude.{◌≡◌, ℕ, ◌+◌, ◌<◌, ◌≤◌, List, slice_index_or}
 use Rattle.ring.specs.Operations.{Operations}
 use Rattle.layout.specs.Shape.{Shape, columns, height, start, area, capacity}
 use Rattle.selector.specs.Sums.{sum_to}
@@ -25,4 +25,4 @@ module _ (K : Operations) (S : Shape) where
 
   -- whatever cells are the selector's table, their extension at the dense point is the selector
   abbrev pub Extends : List K.Value → List K.Value → List K.Value → Type 0
-  Extends row column dense = (cells : List K.Value) → Table row column cells → extension_at K (λ i. get_or cells i K.nought) dense ≡ selector row column dense
+  Extends row column dense = (cells : List K.Value) → Table row column cells → extension_at K (λ i. slice_index_or cells i K.nought) dense ≡ selector row column dense
