@@ -1,10 +1,8 @@
 -- Worked examples as equations between definitions. Assumes nothing.
 use Rattle.std.specs.Prelude.{◌≡◌, ℕ, ◌+◌, ◌^◌, List, [], ◌∷◌, ◌++◌, map, Ok, Err, Result, slice_index, slice_index_or}
-use Rattle.std.specs.List.{range_with_len}
 use Rattle.ring.specs.Bytes.{eight}
 use Rattle.ring.specs.Checks.{verdict}
 use Rattle.ring.specs.Kinds.{residues, residue_of}
-use Rattle.ring.specs.Modular.{Below}
 use Rattle.layout.specs.Encoding.{layout_bytes}
 use Rattle.layout.specs.Plan.{checks, dense_for, planned}
 use Rattle.layout.specs.Shape.{Shape, boundaries}

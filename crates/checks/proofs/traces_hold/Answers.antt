@@ -1,8 +1,8 @@
-use Rattle.std.proofs.Common.{◌≡◌, ℕ, ◌+◌, ◌^◌, ◌<◌, ◌≤◌, refl, ap, ◌∙◌, arith, lit≤, pow_mono}
+use Rattle.std.proofs.Common.{◌≡◌, ◌^◌, ◌≤◌, refl, arith, lit≤, pow_mono}
 use lib.Count.{ones}
 use Rattle.layout.proofs.Powers.{covering_least, least_same}
 use Rattle.layout.specs.Encoding.{layout_bytes}
-use Rattle.layout.specs.Powers.{covering, Least}
+use Rattle.layout.specs.Powers.{covering}
 use Rattle.checks.specs.Traces.{Traces}
 use Rattle.checks.proofs.traces_hold.Goals as goal
 
