@@ -8,11 +8,11 @@ use Rattle.ingest.specs.declared.record.Record.TheVariants.{Chunked}
 use Rattle.ingest.specs.Leaves.{leaf_checks, checks_of, checks_at}
 use Rattle.ingest.specs.Order.{record_at}
 use Rattle.ingest.specs.Table.{flat}
-use Rattle.ingest.proofs.Yields.{flat_more, flat-split, length-yields, yield_leaf, yield_chunk}
+use Rattle.ingest.proofs.Yields.{flat_more, flat_split, length-yields, yield_leaf, yield_chunk}
 
-pub passed-append : {F : Type 0} (xs ys : List (Check F)) → Passed xs → Passed ys → Passed (xs ++ ys)
-passed-append [] ys p q = q
-passed-append (x ∷ xs) ys p q = (p.0, passed-append xs ys p.1 q)
+pub passed_append : {F : Type 0} (xs ys : List (Check F)) → Passed xs → Passed ys → Passed (xs ++ ys)
+passed_append [] ys p q = q
+passed_append (x ∷ xs) ys p q = (p.0, passed_append xs ys p.1 q)
 
 module _ (cells words column : ℕ) (t : List Record) where
   abbrev all : List (List (Check LeafError))
@@ -31,14 +31,14 @@ module _ (cells words column : ℕ) (t : List Record) where
   checks_chunk i from count h e later = yield_chunk (leaf_checks cells words column) flat t i [] h from count e later
 
   -- one part more
-  pub parts-passed : (from p : ℕ) → from ≤ p → p < length t → Passed (flat (take (p - from) (drop from (checks_of cells words column t)))) → Passed (checks_at cells words column t p) → Passed (flat (take (p + 1 - from) (drop from (checks_of cells words column t))))
-  parts-passed from p low h before here =
-      subst Passed (sym (flat_more all from p low (omega (arith, checks_long)))) (passed-append (flat (take (p - from) (drop from all))) (checks_at cells words column t p) before here)
+  pub parts_passed : (from p : ℕ) → from ≤ p → p < length t → Passed (flat (take (p - from) (drop from (checks_of cells words column t)))) → Passed (checks_at cells words column t p) → Passed (flat (take (p + 1 - from) (drop from (checks_of cells words column t))))
+  parts_passed from p low h before here =
+      subst Passed (sym (flat_more all from p low (omega (arith, checks_long)))) (passed_append (flat (take (p - from) (drop from all))) (checks_at cells words column t p) before here)
 
   -- the first part that is refused decides for the chunk
   pub part_refused : (i from count p : ℕ) (e : LeafError) → checks_at cells words column t i ≡ flat (take count (drop from (checks_of cells words column t))) → from ≤ p → p < from + count → from + count ≤ length t → Passed (flat (take (p - from) (drop from (checks_of cells words column t)))) → ◌≡◌ {A = Result (Unit {0}) LeafError} (verdict (checks_at cells words column t p) tt) (Err e) → ◌≡◌ {A = Result (Unit {0}) LeafError} (verdict (checks_at cells words column t i) tt) (Err e)
   part_refused i from count p e whole low high present before refused =
-      let s = flat-split all from count p low high (omega (arith, checks_long)) in
+      let s = flat_split all from count p low high (omega (arith, checks_long)) in
       ap (λ l. verdict l tt) (whole ∙ s.1)
       ∙ verdict-passed (flat (take (p - from) (drop from all))) (checks_at cells words column t p ++ s.0) tt before
       ∙ verdict_refused (checks_at cells words column t p) s.0 tt tt e refused

@@ -1,6 +1,8 @@
 -- Leaves cut and nested in other ways, with the same rows. Assumes nothing.
 use Rattle.std.proofs.Common.{◌≡◌, ℕ, ◌+◌, ◌-◌, ◌*◌, ◌/◌, ◌%◌, ◌^◌, ◌<◌, ◌≤◌, cond, eqb, List, [], ◌∷◌, ◌++◌, map, length, get_or, take, replicate, sym, refl, ap, ◌∙◌, ⊎_elim, add-mul, arith}
 use Rattle.std.proofs.lemmas.List.FromFn.{fill_by_all, get_or-map-range_with_len, length-map-range_with_len}
+use Rattle.std.proofs.lemmas.Grind.{flat_map-append}
+use Rattle.std.proofs.lemmas.List.Folds.{flat_map-map}
 use Rattle.std.proofs.lemmas.List.{append_assoc, ext_get_or, get_or_append_left, get_or-append_right, get_or-take, length-append, length-take-le}
 use Rattle.std.proofs.lemmas.Bool.{cases_lt}
 use Rattle.std.specs.List.{range_with_len, flat_map}
@@ -15,8 +17,7 @@ use Rattle.ingest.specs.Reading.{assembled}
 use Rattle.ingest.specs.Rows.{leaf_row, leaf_rows, rows_of, rows_at}
 use Rattle.ingest.specs.Table.{Sound, flat, leaves_at}
 use Rattle.ingest.proofs.Parts.{leaves_by_parts, rows_by_parts}
-use Rattle.ingest.proofs.Placed.{rows-at-leaves, rows_long}
-use Rattle.ingest.proofs.Written.{joined-append}
+use Rattle.ingest.proofs.Placed.{rows_at_leaves, rows_long}
 
 -- what is counted up to a, and then up to b
 counted_apart : {X : Type 0} (F G H : ℕ → X) (a b : ℕ) (d : X) → ((r : ℕ) → G r ≡ F r) → ((r : ℕ) → H r ≡ F (a + r)) → map F (range_with_len 0 (a + b)) ≡ map G (range_with_len 0 a) ++ map H (range_with_len 0 b)
@@ -30,10 +31,6 @@ counted_apart F G H a b d front back =
     (λ low. get_or_append_left xs ys d k (omega arith) ∙ get_or-map-range_with_len G 0 a k k d low (omega arith) ∙ front k)
     (λ high. let e : a + (k - a) ≡ k = omega arith in get_or-append_right xs ys a k d long-1 high ∙ get_or-map-range_with_len H 0 b (k - a) (k - a) d (omega arith) (omega arith) ∙ back (k - a) ∙ ap F e)
     (cases_lt k a)))
-
-joined-map : {X Y A : Type 0} (f : Y → List A) (g : X → Y) (xs : List X) → flat_map f (map g xs) ≡ flat_map (λ x. f (g x)) xs
-joined-map f g [] = refl
-joined-map f g (x ∷ xs) = ap (λ l. f (g x) ++ l) (joined-map f g xs)
 
 module _ (K : Operations) (cells : List K.Value) (words : List ℕ) where
   abbrev rows : Record → List K.Value
@@ -61,16 +58,16 @@ module _ (K : Operations) (cells : List K.Value) (words : List ℕ) where
   recut_rows : (xs ys : List Record) → Recut xs ys → flat_map rows xs ≡ flat_map rows ys
   recut_rows _ _ (recut_none leaves) = refl
   recut_rows _ _ (recut_one before after whole front back c) =
-      joined-append rows before (whole ∷ after)
+      flat_map-append rows before (whole ∷ after)
       ∙ ap (λ l. flat_map rows before ++ (l ++ flat_map rows after)) (cut_rows whole front back c)
       ∙ ap (λ l. flat_map rows before ++ l) (append_assoc (rows front) (rows back) (flat_map rows after))
-      ∙ sym (joined-append rows before (front ∷ back ∷ after))
+      ∙ sym (flat_map-append rows before (front ∷ back ∷ after))
   recut_rows _ _ (recut_joined xs ys r) = sym (recut_rows xs ys r)
   recut_rows _ _ (recut_again xs ys zs r s) = recut_rows xs ys r ∙ recut_rows ys zs s
 
   -- the rows of a record are those of its leaves
   by_leaf_records : (t : List Record) (i : ℕ) → rows_at K cells words t i ≡ flat_map rows (leaf_records t i)
-  by_leaf_records t i = rows-at-leaves K cells words t i ∙ sym (joined-map rows (record_at t) (leaves_at t i))
+  by_leaf_records t i = rows_at_leaves K cells words t i ∙ sym (flat_map-map rows (record_at t) (leaves_at t i))
 
   cuts_keep_rows : (t : List Record) → CutsKeepRows K cells words t
   cuts_keep_rows t other i j r = by_leaf_records other j ∙ sym (recut_rows (leaf_records t i) (leaf_records other j) r) ∙ sym (by_leaf_records t i)

@@ -98,11 +98,11 @@ module _ (t : List Record) (sound : Sound t) where
   converted i (Bits place words height) e = omega (arith, ap rank_of e)
   converted i (Chunked from count) e = omega (arith, ap rank_of e, (run_pass (pass_of t) Copied from count).starts)
 
-  pass-at : (i : ℕ) (r : Record) → i < length t → record_at t i ≡ r → pass_of t i ≡ by_parts (λ _ r. leaf_pass r) highest (pass_of t) i r → PassIs (pass_of t) r (pass_of t i)
-  pass-at i (Dense place height) h at e = e
-  pass-at i (Interleaved place len first stride height) h at e = e
-  pass-at i (Bits place words height) h at e = e
-  pass-at i (Chunked from count) h at e =
+  pass_at : (i : ℕ) (r : Record) → i < length t → record_at t i ≡ r → pass_of t i ≡ by_parts (λ _ r. leaf_pass r) highest (pass_of t) i r → PassIs (pass_of t) r (pass_of t i)
+  pass_at i (Dense place height) h at e = e
+  pass_at i (Interleaved place len first stride height) h at e = e
+  pass_at i (Bits place words height) h at e = e
+  pass_at i (Chunked from count) h at e =
       let s = sound i from count h at in
       let run = run_pass (pass_of t) Copied from count in
       record {
@@ -117,4 +117,4 @@ module _ (t : List Record) (sound : Sound t) where
       }
 
 pub passes_by_parts : (t : List Record) → Sound t → PassesByParts t
-passes_by_parts t sound i h = pass-at t sound i (record_at t i) h refl (pass_by_parts t sound i h)
+passes_by_parts t sound i h = pass_at t sound i (record_at t i) h refl (pass_by_parts t sound i h)

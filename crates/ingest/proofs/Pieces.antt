@@ -15,7 +15,7 @@ use Rattle.ingest.specs.Rows.{found_rows, rows_of, rows_at}
 use Rattle.ingest.specs.Table.{flat, height_of, leaves_of, leaves_at}
 use Rattle.ingest.proofs.Orders.{sources_present}
 use Rattle.ingest.proofs.Passings.{down_passed}
-use Rattle.ingest.proofs.Placed.{Each, Sits, columns_sit, each_at, heights-count, leaves_sit, no_some, rows_by_leaves, rows_long}
+use Rattle.ingest.proofs.Placed.{Each, Sits, columns_sit, each_at, heights_count, leaves_sit, no_some, rows_by_leaves, rows_long}
 
 module _ (t : List Record) (column cells words room : ℕ) (p : Passed (piece_checks t column cells words room)) where
   abbrev first_part : Passed (piece_height_checks t column)
@@ -56,6 +56,6 @@ brought K cells words t column n m room leaves p found-are =
     record {
       sits = λ k h. each_at (Sits n m t) leaves k (subst (λ l. Each (Sits n m t) l) (sym found-are) (piece_sits t column n m room p)) h;
       rows_are = rows_are;
-      tall = ap length rows_are ∙ heights-count K cells words t 0;
+      tall = ap length rows_are ∙ heights_count K cells words t 0;
       fits = piece_room t column n m room p;
     }

@@ -1,5 +1,6 @@
 -- The rows of a table, by its leaves and by its heights. Assumes nothing.
 use Rattle.std.proofs.Common.{◌≡◌, ℕ, zero, suc, ◌+◌, ◌-◌, ◌<◌, ◌≤◌, Bool, true, false, ◌&&◌, ltb, List, [], ◌∷◌, ◌++◌, length, get_or, take, drop, replicate, is_some, Some, None, Ok, sum, Option, Result, sym, refl, ap, ◌∙◌, subst, add-one, arith}
+use Rattle.std.proofs.lemmas.Grind.{flat_map-append}
 use Rattle.std.proofs.lemmas.List.{append_assoc, append-nil, ext_get_or, get_or_append_left, get_or-append_right, get_or-take, length-append, length-take-le, take-take}
 use Rattle.std.proofs.lemmas.List.Sums.{sum_by-cons}
 use Rattle.std.proofs.lemmas.Bool.{both_ways, eqb-true, lt-ltb, ltb-false, not-false}
@@ -22,10 +23,10 @@ use Rattle.ingest.proofs.Tall.{heights_long}
 use Rattle.ingest.specs.Vector.{buffer_checks}
 use Rattle.ingest.proofs.Orders.{sources_present}
 use Rattle.ingest.proofs.Passings.{down_passed}
-use Rattle.ingest.proofs.Related.{Both, both_at, both-take, related}
+use Rattle.ingest.proofs.Related.{Both, both_at, both_take, related}
 use Rattle.ingest.proofs.Rooms.{columns_more}
-use Rattle.ingest.proofs.Yields.{flat-split, length-yields}
-use Rattle.ingest.proofs.Written.{joined-append, leaf_rows_long}
+use Rattle.ingest.proofs.Yields.{flat_split, length-yields}
+use Rattle.ingest.proofs.Written.{leaf_rows_long}
 
 regroup : {A : Type 0} (a b c d e : List A) → ((a ++ (b ++ c)) ++ d) ++ e ≡ a ++ (b ++ (c ++ (d ++ e)))
 regroup a b c d e = simp append_assoc
@@ -34,12 +35,12 @@ module _ (K : Operations) (cells : List K.Value) (words : List ℕ) (t : List Re
   abbrev Rows : List K.Value → List ℕ → Type 0
   Rows rows leaves = rows ≡ found_rows K cells words t leaves
 
-  rows-flat : (xs : List (List K.Value)) (ys : List (List ℕ)) → Both Rows xs ys → flat xs ≡ found_rows K cells words t (flat ys)
-  rows-flat [] [] b = refl
-  rows-flat [] (y ∷ ys) b = absurd b
-  rows-flat (x ∷ xs) [] b = absurd b
-  rows-flat (x ∷ xs) (y ∷ ys) b =
-      ap (λ l. l ++ flat xs) b.0 ∙ ap (λ l. found_rows K cells words t y ++ l) (rows-flat xs ys b.1) ∙ sym (joined-append (λ n. leaf_rows K cells words (record_at t n)) y (flat ys))
+  rows_flat : (xs : List (List K.Value)) (ys : List (List ℕ)) → Both Rows xs ys → flat xs ≡ found_rows K cells words t (flat ys)
+  rows_flat [] [] b = refl
+  rows_flat [] (y ∷ ys) b = absurd b
+  rows_flat (x ∷ xs) [] b = absurd b
+  rows_flat (x ∷ xs) (y ∷ ys) b =
+      ap (λ l. l ++ flat xs) b.0 ∙ ap (λ l. found_rows K cells words t y ++ l) (rows_flat xs ys b.1) ∙ sym (flat_map-append (λ n. leaf_rows K cells words (record_at t n)) y (flat ys))
 
   pub rows_long : length (rows_of K cells words t) ≡ length t
   unfolding rows_of
@@ -47,16 +48,16 @@ module _ (K : Operations) (cells : List K.Value) (words : List ℕ) (t : List Re
 
   all_found : Both Rows (rows_of K cells words t) (leaves_of t)
   unfolding rows_of leaves_of
-  all_found = related Rows (λ _ r. leaf_rows K cells words r) (λ i _. i ∷ []) flat flat t (λ i h. sym (append-nil (leaf_rows K cells words (record_at t i)))) rows-flat
+  all_found = related Rows (λ _ r. leaf_rows K cells words r) (λ i _. i ∷ []) flat flat t (λ i h. sym (append-nil (leaf_rows K cells words (record_at t i)))) rows_flat
 
   -- the rows of the first columns are those of their leaves
   pub rows_by_leaves : (s : ℕ) → flat (take s (rows_of K cells words t)) ≡ found_rows K cells words t (flat (take s (leaves_of t)))
   rows_by_leaves s =
-      rows-flat (take s (rows_of K cells words t)) (take s (leaves_of t)) (both-take Rows s (rows_of K cells words t) (leaves_of t) all_found)
+      rows_flat (take s (rows_of K cells words t)) (take s (leaves_of t)) (both_take Rows s (rows_of K cells words t) (leaves_of t) all_found)
 
   -- so are those of one record
-  pub rows-at-leaves : (i : ℕ) → rows_at K cells words t i ≡ found_rows K cells words t (leaves_at t i)
-  rows-at-leaves i = both_at Rows [] [] refl i (rows_of K cells words t) (leaves_of t) all_found
+  pub rows_at_leaves : (i : ℕ) → rows_at K cells words t i ≡ found_rows K cells words t (leaves_at t i)
+  rows_at_leaves i = both_at Rows [] [] refl i (rows_of K cells words t) (leaves_of t) all_found
 
   abbrev Tall : List K.Value → ℕ → Type 0
   Tall rows n = length rows ≡ n
@@ -71,8 +72,8 @@ module _ (K : Operations) (cells : List K.Value) (words : List ℕ) (t : List Re
   unfolding rows_of heights_of
   all_tall = related Tall (λ _ r. leaf_rows K cells words r) (λ _ r. leaf_height r) flat sum t (λ i h. leaf_rows_long K cells words t (record_at t i)) tall_flat
 
-  pub heights-count : HeightsCountRows K cells words t
-  heights-count i = both_at Tall [] 0 refl i (rows_of K cells words t) (heights_of t) all_tall
+  pub heights_count : HeightsCountRows K cells words t
+  heights_count i = both_at Tall [] 0 refl i (rows_of K cells words t) (heights_of t) all_tall
 
   module _ (S : Shape) (present : columns S ≤ length t) (same : (y : ℕ) → y < columns S → height_of t y ≡ height S y) where
     heights_are : take (columns S) (heights_of t) ≡ S.heights
@@ -84,24 +85,24 @@ module _ (K : Operations) (cells : List K.Value) (words : List ℕ) (t : List Re
     -- the rows of the columns before y fill the vector up to its start
     front_long : (y : ℕ) → y ≤ columns S → length (flat (take y (rows_of K cells words t))) ≡ start S y
     front_long y h =
-        tall_flat (take y (rows_of K cells words t)) (take y (heights_of t)) (both-take Tall y (rows_of K cells words t) (heights_of t) all_tall)
+        tall_flat (take y (rows_of K cells words t)) (take y (heights_of t)) (both_take Tall y (rows_of K cells words t) (heights_of t) all_tall)
         ∙ ap sum (sym (take-take y (columns S) (heights_of t) h) ∙ ap (take y) heights_are)
 
     -- columns of the layout's heights fill its area
     rows_fill : length (flat (take (columns S) (rows_of K cells words t))) ≡ area S
     rows_fill = front_long (columns S) (omega arith) ∙ area-start S
 
-    rows-placed : (old : List K.Value) → RowsPlaced K S cells words t (over (assembled K S cells words t) old)
-    rows-placed old y k h l =
+    rows_placed : (old : List K.Value) → RowsPlaced K S cells words t (over (assembled K S cells words t) old)
+    rows_placed old y k h l =
         let ys = rows_of K cells words t in
-        let split = flat-split ys 0 (columns S) y (omega arith) (omega arith) (omega (arith, rows_long)) in
+        let split = flat_split ys 0 (columns S) y (omega arith) (omega arith) (omega (arith, rows_long)) in
         let e : y - 0 ≡ y = omega arith in
         let whole = split.1 ∙ ap (λ n. flat (take n ys) ++ (get_or ys y [] ++ split.0)) e in
         let pad = replicate (capacity S - area S) K.nought in
         let tail = drop (length (assembled K S cells words t)) old in
         let joined-up = ap (λ l. (l ++ pad) ++ tail) whole ∙ regroup (flat (take y ys)) (get_or ys y []) split.0 pad tail in
         let back : (start S y + k) - start S y ≡ k = omega arith in
-        let tall = heights-count y in
+        let tall = heights_count y in
         ap (λ l. get_or l (start S y + k) K.nought) joined-up
         ∙ get_or-append_right (flat (take y ys)) (get_or ys y [] ++ (split.0 ++ (pad ++ tail))) (start S y) (start S y + k) K.nought (front_long y (omega arith)) (omega arith)
         ∙ ap (λ n. get_or (get_or ys y [] ++ (split.0 ++ (pad ++ tail))) n K.nought) back
@@ -161,14 +162,14 @@ module _ (cells words : ℕ) (t : List Record) where
 
   -- what the checks of all columns tell
   module _ (S : Shape) (present : columns S ≤ length t) (passed : Passed (columns_checks S t cells words)) where
-    one-passed : (y : ℕ) → y < columns S → Passed (one_checks t cells words y (height S y))
-    one-passed y h = passed-at (λ y. one_checks t cells words y (height S y)) (columns S) y h passed
+    one_passed : (y : ℕ) → y < columns S → Passed (one_checks t cells words y (height S y))
+    one_passed y h = passed-at (λ y. one_checks t cells words y (height S y)) (columns S) y h passed
 
     heights_same : (y : ℕ) → y < columns S → height_of t y ≡ height S y
-    heights_same y h = eqb-true (height_of t y) (height S y) (not-false _ (one-passed y h).1.0)
+    heights_same y h = eqb-true (height_of t y) (height S y) (not-false _ (one_passed y h).1.0)
 
     all_sit : Each Sits (flat (take (columns S) (leaves_of t)))
-    all_sit = columns_sit (columns S) present (λ y h. leaves_sit y y (down_passed (checks_at cells words y t y) (one-passed y h).1.1))
+    all_sit = columns_sit (columns S) present (λ y h. leaves_sit y y (down_passed (checks_at cells words y t y) (one_passed y h).1.1))
 
 pub no_some : (w : Option ℕ) → is_some w ≡ false → w ≡ None
 no_some None e = refl
@@ -210,5 +211,5 @@ ready K cells words S t sources n m buffer leaves ok are =
       sits = λ k h. each_at (Sits n m t) leaves k (subst (λ l. Each (Sits n m t) l) (sym found-are) (all_sit n m t S ok.present ok.passed)) h;
       rows_are = ap (found_rows K cells words t) found-are ∙ sym (rows_by_leaves K cells words t (columns S));
       fill = rows_fill K cells words t S ok.present same;
-      placed = rows-placed K cells words t S ok.present same;
+      placed = rows_placed K cells words t S ok.present same;
     }

@@ -22,5 +22,5 @@ module _ (t : List Record) where
   pass_chunk i from count h e later = yield_chunk (λ _ r. leaf_pass r) highest t i Copied h from count e later
 
   -- the parts of a run up to part p, and one more
-  pub highest-at : (from p : ℕ) → from ≤ p → p < length t → highest (take (p + 1 - from) (drop from (passes_of t))) ≡ higher_of (highest (take (p - from) (drop from (passes_of t)))) (pass_of t p)
-  highest-at from p low h = fold_at higher_of Copied (passes_of t) from p Copied low (omega (arith, passes_long))
+  pub highest_at : (from p : ℕ) → from ≤ p → p < length t → highest (take (p + 1 - from) (drop from (passes_of t))) ≡ higher_of (highest (take (p - from) (drop from (passes_of t)))) (pass_of t p)
+  highest_at from p low h = fold_at higher_of Copied (passes_of t) from p Copied low (omega (arith, passes_long))

@@ -13,19 +13,19 @@ module _ {A B : Type 0} (Rel : A → B → Type 0) where
   Both (x ∷ xs) [] = ⊥
   Both (x ∷ xs) (y ∷ ys) = Rel x y × Both xs ys
 
-  pub both-drop : (n : ℕ) (xs : List A) (ys : List B) → Both xs ys → Both (drop n xs) (drop n ys)
-  both-drop zero xs ys b = b
-  both-drop (suc n) [] [] b = tt
-  both-drop (suc n) [] (y ∷ ys) b = absurd b
-  both-drop (suc n) (x ∷ xs) [] b = absurd b
-  both-drop (suc n) (x ∷ xs) (y ∷ ys) b = both-drop n xs ys b.1
+  pub both_drop : (n : ℕ) (xs : List A) (ys : List B) → Both xs ys → Both (drop n xs) (drop n ys)
+  both_drop zero xs ys b = b
+  both_drop (suc n) [] [] b = tt
+  both_drop (suc n) [] (y ∷ ys) b = absurd b
+  both_drop (suc n) (x ∷ xs) [] b = absurd b
+  both_drop (suc n) (x ∷ xs) (y ∷ ys) b = both_drop n xs ys b.1
 
-  pub both-take : (n : ℕ) (xs : List A) (ys : List B) → Both xs ys → Both (take n xs) (take n ys)
-  both-take zero xs ys b = tt
-  both-take (suc n) [] [] b = tt
-  both-take (suc n) [] (y ∷ ys) b = absurd b
-  both-take (suc n) (x ∷ xs) [] b = absurd b
-  both-take (suc n) (x ∷ xs) (y ∷ ys) b = (b.0, both-take n xs ys b.1)
+  pub both_take : (n : ℕ) (xs : List A) (ys : List B) → Both xs ys → Both (take n xs) (take n ys)
+  both_take zero xs ys b = tt
+  both_take (suc n) [] [] b = tt
+  both_take (suc n) [] (y ∷ ys) b = absurd b
+  both_take (suc n) (x ∷ xs) [] b = absurd b
+  both_take (suc n) (x ∷ xs) (y ∷ ys) b = (b.0, both_take n xs ys b.1)
 
   pub both_at : (d : A) (e : B) → Rel d e → (k : ℕ) (xs : List A) (ys : List B) → Both xs ys → Rel (get_or xs k d) (get_or ys k e)
   both_at d e past k [] [] b = past
@@ -43,7 +43,7 @@ module _ {A B : Type 0} (Rel : A → B → Type 0) where
     at_record a (Bits place words height) xs ys h e b = subst (λ r. Rel (f a r) (g a r)) e (leaves a h)
     at_record a (Chunked from count) xs ys h e b =
         chunks (take count (drop (from - (a + 1)) xs)) (take count (drop (from - (a + 1)) ys))
-        (both-take count (drop (from - (a + 1)) xs) (drop (from - (a + 1)) ys) (both-drop (from - (a + 1)) xs ys b))
+        (both_take count (drop (from - (a + 1)) xs) (drop (from - (a + 1)) ys) (both_drop (from - (a + 1)) xs ys b))
 
     from_record : (a : ℕ) (u : List Record) → a + length u ≡ length t → ((k : ℕ) → k < length u → record_at t (a + k) ≡ record_at u k) → Both (yields f p a u) (yields g q a u)
     from_record a [] e same = tt

@@ -6,8 +6,8 @@ use Rattle.ingest.specs.declared.record.Record.TheVariants.{Dense, Interleaved, 
 use Rattle.ingest.specs.Order.{max_records, record_at, run_end, wrong_from, wrong_record}
 use Rattle.ingest.specs.Table.{flat, leaves_of, leaves_at}
 use Rattle.ingest.proofs.Orders.{passed, begins_chunk, few_records, next_grows, reached}
-use Rattle.ingest.proofs.Written.{joined_le, joined-take}
-use Rattle.ingest.proofs.Yields.{flat_append, flat_more, flat-split, length-yields, yield_leaf, yield_chunk}
+use Rattle.ingest.proofs.Written.{flat_map_le, flat_map-take}
+use Rattle.ingest.proofs.Yields.{flat_append, flat_more, flat_split, length-yields, yield_leaf, yield_chunk}
 
 leaf_chunk : {a b c d : ℕ} → Dense a b ≡ Chunked c d → ⊥
 leaf_chunk e = let z : ◌≡◌ {A = ℕ} 0 1 = cc in omega arith
@@ -38,7 +38,7 @@ module _ (t : List Record) where
   -- a part and those before it have no more leaves than the chunk
   pub leaves_le : (i from count p : ℕ) → leaves_at t i ≡ flat (take count (drop from (leaves_of t))) → from ≤ p → p < from + count → from + count ≤ length t → length (flat (take (p - from) (drop from (leaves_of t)))) + length (leaves_at t p) ≤ length (leaves_at t i)
   leaves_le i from count p whole low high present =
-      let s = flat-split (leaves_of t) from count p low high (omega (arith, leaves_long)) in
+      let s = flat_split (leaves_of t) from count p low high (omega (arith, leaves_long)) in
       let before = flat (take (p - from) (drop from (leaves_of t))) in
       omega (arith, ap length (whole ∙ s.1), length-append before (leaves_at t p ++ s.0), length-append (leaves_at t p) s.0)
 
@@ -93,10 +93,10 @@ module _ (t : List Record) where
   -- room for one column more
   pub column_fits : (sources column : ℕ) → column < sources → sources ≤ length t → length (flat (take column (leaves_of t))) + length (leaves_at t column) ≤ length (flat (take sources (leaves_of t)))
   column_fits sources column h present =
-      let more = joined-take (λ part. part) (leaves_of t) column [] (omega (arith, leaves_long)) in
-      let le = joined_le (λ part. part) (take sources (leaves_of t)) (column + 1) in
+      let more = flat_map-take (λ part. part) (leaves_of t) column [] (omega (arith, leaves_long)) in
+      let le = flat_map_le (λ part. part) (take sources (leaves_of t)) (column + 1) in
       let short = ap (λ l. length (flat l)) (take-take (column + 1) sources (leaves_of t) (omega arith)) in
       omega (arith, ap length more, length-append (flat (take column (leaves_of t))) (leaves_at t column))
 
   pub columns_more : (column : ℕ) → column < length t → flat (take (column + 1) (leaves_of t)) ≡ flat (take column (leaves_of t)) ++ leaves_at t column
-  columns_more column h = joined-take (λ part. part) (leaves_of t) column [] (omega (arith, leaves_long))
+  columns_more column h = flat_map-take (λ part. part) (leaves_of t) column [] (omega (arith, leaves_long))

@@ -1,10 +1,11 @@
 -- Rows written one by one, and leaves one after the other. Assumes nothing.
-use Rattle.std.proofs.Common.{◌≡◌, ℕ, ◌+◌, ◌-◌, ◌*◌, ◌<◌, ◌≤◌, List, [], ◌∷◌, ◌++◌, map, length, get_or, take, drop, set, sym, refl, ap, ◌∙◌, subst, ⊎_elim, arith}
+use Rattle.std.proofs.Common.{◌≡◌, ℕ, ◌+◌, ◌-◌, ◌*◌, ◌<◌, ◌≤◌, List, [], ◌++◌, map, length, get_or, take, drop, set, sym, ap, ◌∙◌, subst, ⊎_elim, arith}
 use Rattle.std.proofs.lemmas.Nat.{mul-le}
 use borrow.Rule.Slice.PartMut.{put_mid}
 use Rattle.std.specs.List.{range_with_len, flat_map}
 use Rattle.ring.specs.Bytes.{over}
 use Rattle.std.proofs.lemmas.List.FromFn.{fill_by_all, length-map-range_with_len}
+use Rattle.std.proofs.lemmas.Grind.{flat_map-append}
 use Rattle.std.proofs.lemmas.List.{append_assoc, drop_at, drop-drop, drop-map, get_or-drop, get_or-set_same, get_or-set_other, get_or-take, flat_map_more, length-append, length-drop, length-map, length-take-le, map-append, map-set, take-append-drop, take_at, take-map, take_more}
 use Rattle.ring.specs.Operations.{Operations}
 use Rattle.ingest.specs.declared.leaves.Leaves.{Leaves}
@@ -29,8 +30,8 @@ pub row_le : (row rows stride : ℕ) → row < rows → row * stride ≤ (rows -
 row_le row rows stride h = mul-le row stride (rows - 1) stride (omega arith) (omega arith)
 
 -- a run of cells is its rows one by one
-pub dense-rows : {A B : Type 0} (f : A → B) (d : B) (cells out : List A) (place height : ℕ) → place + height ≤ length cells → out ≡ take height (drop place cells) → map f out ≡ map (λ r. get_or (map f cells) (place + r) d) (range_with_len 0 height)
-dense-rows f d cells out place height within e =
+pub dense_rows : {A B : Type 0} (f : A → B) (d : B) (cells out : List A) (place height : ℕ) → place + height ≤ length cells → out ≡ take height (drop place cells) → map f out ≡ map (λ r. get_or (map f cells) (place + r) d) (range_with_len 0 height)
+dense_rows f d cells out place height within e =
     let part = take height (drop place (map f cells)) in
     let long : length part ≡ height = length-take-le height (drop place (map f cells)) (omega (arith, length-drop place (map f cells), length-map cells f)) in
     ap (map f) e ∙ sym (take-map f height (drop place cells)) ∙ ap (take height) (sym (drop-map f place cells))
@@ -52,17 +53,13 @@ leaf_more f xs ys before here old at k was wrote e1 e2 =
     ∙ sym (append_assoc before here (drop (length before + length here) old))
     ∙ ap (λ n. (before ++ here) ++ drop n old) (sym (length-append before here))
 
-pub joined-append : {A B : Type 0} (g : A → List B) (xs ys : List A) → flat_map g (xs ++ ys) ≡ flat_map g xs ++ flat_map g ys
-joined-append g [] ys = refl
-joined-append g (x ∷ xs) ys = ap (λ l. g x ++ l) (joined-append g xs ys) ∙ sym (append_assoc (g x) (flat_map g xs) (flat_map g ys))
-
 -- the leaves up to one of them and that one, and what is left after it
-pub joined-take : {A B : Type 0} (g : A → List B) (xs : List A) (k : ℕ) (d : A) → k < length xs → flat_map g (take (k + 1) xs) ≡ flat_map g (take k xs) ++ g (get_or xs k d)
-joined-take g xs k d h =
+pub flat_map-take : {A B : Type 0} (g : A → List B) (xs : List A) (k : ℕ) (d : A) → k < length xs → flat_map g (take (k + 1) xs) ≡ flat_map g (take k xs) ++ g (get_or xs k d)
+flat_map-take g xs k d h =
     ap (flat_map g) (take_more xs k d h) ∙ sym (flat_map_more g [] (take k xs) (get_or xs k d))
 
-pub joined_le : {A B : Type 0} (g : A → List B) (xs : List A) (k : ℕ) → length (flat_map g (take k xs)) ≤ length (flat_map g xs)
-joined_le g xs k = omega (arith, ap length (ap (flat_map g) (sym (take-append-drop k xs)) ∙ joined-append g (take k xs) (drop k xs)), length-append (flat_map g (take k xs)) (flat_map g (drop k xs)))
+pub flat_map_le : {A B : Type 0} (g : A → List B) (xs : List A) (k : ℕ) → length (flat_map g (take k xs)) ≤ length (flat_map g xs)
+flat_map_le g xs k = omega (arith, ap length (ap (flat_map g) (sym (take-append-drop k xs)) ∙ flat_map-append g (take k xs) (drop k xs)), length-append (flat_map g (take k xs)) (flat_map g (drop k xs)))
 
 module _ (K : Operations) (cells : List K.Value) (words : List ℕ) (t : List Record) where
   pub leaf_rows_long : (r : Record) → length (leaf_rows K cells words r) ≡ leaf_height r
@@ -70,18 +67,18 @@ module _ (K : Operations) (cells : List K.Value) (words : List ℕ) (t : List Re
 
   -- one leaf more
   pub found_more : (numbers : List ℕ) (k n : ℕ) → k < length numbers → get_or numbers k 0 ≡ n → found_rows K cells words t (take (k + 1) numbers) ≡ found_rows K cells words t (take k numbers) ++ leaf_rows K cells words (record_at t n)
-  found_more numbers k n h e = joined-take (λ m. leaf_rows K cells words (record_at t m)) numbers k 0 h ∙ ap (λ m. found_rows K cells words t (take k numbers) ++ leaf_rows K cells words (record_at t m)) e
+  found_more numbers k n h e = flat_map-take (λ m. leaf_rows K cells words (record_at t m)) numbers k 0 h ∙ ap (λ m. found_rows K cells words t (take k numbers) ++ leaf_rows K cells words (record_at t m)) e
 
   pub found_le : (numbers : List ℕ) (k n : ℕ) → k < length numbers → get_or numbers k 0 ≡ n → length (found_rows K cells words t (take k numbers)) + leaf_height (record_at t n) ≤ length (found_rows K cells words t numbers)
   found_le numbers k n h e =
-      omega (arith, ap length (found_more numbers k n h e), length-append (found_rows K cells words t (take k numbers)) (leaf_rows K cells words (record_at t n)), leaf_rows_long (record_at t n), joined_le (λ m. leaf_rows K cells words (record_at t m)) numbers (k + 1))
+      omega (arith, ap length (found_more numbers k n h e), length-append (found_rows K cells words t (take k numbers)) (leaf_rows K cells words (record_at t n)), leaf_rows_long (record_at t n), flat_map_le (λ m. leaf_rows K cells words (record_at t m)) numbers (k + 1))
 
   -- the number of a leaf that was found
-  pub number-found : (ls : Leaves) (k : ℕ) → k < ls.count → (length (found ls) ≡ ls.count) × (get_or (found ls) k 0 ≡ get_or ls.numbers k 0)
-  number-found ls k h = (length-take-le ls.count ls.numbers (omega (arith, ls.within, ls.long)), get_or-take ls.count ls.numbers k 0 h)
+  pub number_found : (ls : Leaves) (k : ℕ) → k < ls.count → (length (found ls) ≡ ls.count) × (get_or (found ls) k 0 ≡ get_or ls.numbers k 0)
+  number_found ls k h = (length-take-le ls.count ls.numbers (omega (arith, ls.within, ls.long)), get_or-take ls.count ls.numbers k 0 h)
 
   -- where there is room for all leaves, the rows of one of them end within it
   pub leaf_ends : (ls : Leaves) (k at rows room : ℕ) → k < ls.count → at ≡ length (found_rows K cells words t (take k (found ls))) → rows ≡ leaf_height (record_at t (get_or ls.numbers k 0)) → length (found_rows K cells words t (found ls)) ≤ room → at + rows ≤ room
   leaf_ends ls k at rows room h start tall fits =
-      let n = number-found ls k h in
+      let n = number_found ls k h in
       omega (arith, found_le (found ls) k (get_or ls.numbers k 0) (omega (arith, n.0)) n.1)

@@ -72,8 +72,8 @@ split_at (z ∷ zs) (suc k) h =
     ap (λ l. z ++ l) (split_at zs k (omega arith)) ∙ sym (append_assoc z (flat (take k zs)) (get_or zs k [] ++ flat (drop (k + 1) zs)))
     ∙ ap (λ n. (z ++ flat (take k zs)) ++ (get_or zs k [] ++ flat (drop n (z ∷ zs)))) e
 
-pub flat-split : {A : Type 0} (ys : List (List A)) (from count p : ℕ) → from ≤ p → p < from + count → from + count ≤ length ys → (rest : List A) × (flat (take count (drop from ys)) ≡ flat (take (p - from) (drop from ys)) ++ (get_or ys p [] ++ rest))
-flat-split ys from count p low high present =
+pub flat_split : {A : Type 0} (ys : List (List A)) (from count p : ℕ) → from ≤ p → p < from + count → from + count ≤ length ys → (rest : List A) × (flat (take count (drop from ys)) ≡ flat (take (p - from) (drop from ys)) ++ (get_or ys p [] ++ rest))
+flat_split ys from count p low high present =
     let zs = take count (drop from ys) in
     let back : from + (p - from) ≡ p = omega arith in
     let long : length zs ≡ count = length-take-le count (drop from ys) (omega (arith, length-drop from ys)) in (

@@ -3,7 +3,7 @@ ghost use Rattle.std.specs.Prelude.{◌≡◌, ◌<◌, ◌≤◌, map, length, 
 ghost use Rattle.ring.specs.Bytes.{over};
 ghost use Rattle.ring.specs.Checks.{verdict};
 ghost use Rattle.layout.specs.Layout.{shape};
-ghost use Rattle.layout.specs.Shape.{columns as columnsOf, capacity as capacityOf};
+ghost use Rattle.layout.specs.Shape.{columns as columns_of, capacity as capacity_of};
 ghost use Rattle.ingest.specs.Charges.{outcome};
 ghost use Rattle.ingest.specs.Cuts.{ColumnsByRows, ColumnsByCuts, RowLaws};
 ghost use Rattle.ingest.specs.Found.{found};
@@ -56,7 +56,7 @@ fn check_each(
     words: usize,
 ) -> Result<(), JaggedIngestError>
     requires sound { Sound table.now }
-    requires present { columnsOf (shape layout.now) ≤ length table.now }
+    requires present { columns_of (shape layout.now) ≤ length table.now }
     ensures { result ≡ verdict (columns_checks (shape layout.now) table.now cells words) tt }
 {
     for column in 0..layout.num_columns() {
@@ -111,7 +111,7 @@ pub(crate) fn find_all(table: &[Record], sources: usize) -> Leaves
 // Charges each column to its pass.
 fn charge_columns(layout: &JaggedLayout, table: &[Record]) -> IngestReport
     requires sound { Sound table.now }
-    requires present { columnsOf (shape layout.now) ≤ length table.now }
+    requires present { columns_of (shape layout.now) ≤ length table.now }
     ensures { ColumnsReport (shape layout.now) table.now result }
 {
     let mut report = IngestReport::padding(layout.dense_capacity() - layout.area());
@@ -142,7 +142,7 @@ pub fn read_columns<R: Ring>(
 ) -> Result<IngestReport, JaggedIngestError>
     ensures answer { outcome result ≡ verdict (read_checks (shape layout.now) table.now sources (length cells.now) (length words.now) (length buffer.old)) tt }
     ensures written { MatchResult result (λ _. map R.Ring.value buffer.new ≡ over (assembled R.Ring.ops (shape layout.now) (map R.Ring.value cells.now) words.now table.now) (map R.Ring.value buffer.old)) (λ _. buffer.new ≡ buffer.old) }
-    ensures kept { drop (capacityOf (shape layout.now)) buffer.new ≡ drop (capacityOf (shape layout.now)) buffer.old }
+    ensures kept { drop (capacity_of (shape layout.now)) buffer.new ≡ drop (capacity_of (shape layout.now)) buffer.old }
     ensures placed { OnOk result (RowsPlaced R.Ring.ops (shape layout.now) (map R.Ring.value cells.now) words.now table.now (map R.Ring.value buffer.new)) }
     ensures same { OnOk result (ColumnsByRows R.Ring.ops (shape layout.now) (map R.Ring.value cells.now) words.now table.now (map R.Ring.value buffer.old) (map R.Ring.value buffer.new)) }
     ensures cuts { OnOk result (ColumnsByCuts R.Ring.ops (shape layout.now) (map R.Ring.value cells.now) words.now table.now (map R.Ring.value buffer.old) (map R.Ring.value buffer.new)) }

@@ -4,7 +4,7 @@ use Rattle.ring.specs.Checks.{Passed, verdict}
 use Rattle.ring.proofs.Verdicts.{passed_from_ok, verdict_all}
 use Rattle.ingest.specs.Leaves.{checks_of, checks_at}
 use Rattle.ingest.specs.Table.{flat}
-use Rattle.ingest.proofs.Checked.{checks_leaf, checks_chunk, parts-passed, part_refused}
+use Rattle.ingest.proofs.Checked.{checks_leaf, checks_chunk, parts_passed, part_refused}
 use Rattle.ingest.proofs.leaf.+check_leaves.Goals as goal
 use Rattle.ingest.proofs.leaf.+check_leaves.Goals.{in-Chunked-table+in_ok-check_leaves-in-Chunked-table, in_default-table+in_ok-check_leaf-in_default-table}
 
@@ -62,7 +62,7 @@ loop-part-preserved t c =
           let one = ap (λ l. verdict l tt) (checks_leaf c.args.cells c.args.block_words c.args.column c.args.table.now c.loop-part.part (omega arith) w.in_default-table.not-Chunked) in
           passed_from_ok (checks_at c.args.cells c.args.block_words c.args.column c.args.table.now c.loop-part.part) tt tt (one ∙ sym w.check_leaf.ensures ∙ w.in_ok-check_leaf-in_default-table.was)
     ] in
-    parts-passed c.args.cells c.args.block_words c.args.column c.args.table.now c.in-Chunked.from c.loop-part.part (omega arith) (omega arith) c.loop-part.invariant here
+    parts_passed c.args.cells c.args.block_words c.args.column c.args.table.now c.in-Chunked.from c.loop-part.part (omega arith) (omega arith) c.loop-part.invariant here
 
 pub returns-after-loop-part : goal.returns-after-loop-part
 returns-after-loop-part t c =

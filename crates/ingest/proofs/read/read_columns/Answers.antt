@@ -13,7 +13,7 @@ use Rattle.ingest.specs.Rows.{rows_of}
 use Rattle.ingest.specs.Table.{flat}
 use Rattle.ingest.proofs.Cuts.{columns_by_cuts, columns_by_rows, row_laws}
 use Rattle.ingest.proofs.Orders.{sound}
-use Rattle.ingest.proofs.Placed.{accepted, heights-count, ready}
+use Rattle.ingest.proofs.Placed.{accepted, heights_count, ready}
 use Rattle.ingest.proofs.Written.{leaf_more}
 use Rattle.ingest.proofs.read.read_columns.Goals as goal
 
@@ -29,7 +29,7 @@ returns-in_err-check_columns g c =
       cuts = IfOk-from_err c.from_residual.result _ c.from_residual.ensures.0;
       laws = IfOk-from_err c.from_residual.result _ c.from_residual.ensures.0;
       report = IfOk-from_err c.from_residual.result _ c.from_residual.ensures.0;
-      heights = heights-count g.R.Ring.ops (map g.R.Ring.value c.args.cells.now) c.args.words.now c.args.table.now;
+      heights = heights_count g.R.Ring.ops (map g.R.Ring.value c.args.cells.now) c.args.words.now c.args.table.now;
     }
 
 pub find_all-leaves-requires : goal.find_all-leaves-requires
@@ -111,5 +111,5 @@ returns g c =
       same = by_rows;
       cuts = columns_by_cuts g.R.Ring.ops cells words t old _ S by_rows;
       laws = row_laws g.R.Ring.ops cells words t (sound t c.args.sources ok.none);
-      heights = heights-count g.R.Ring.ops cells words t;
+      heights = heights_count g.R.Ring.ops cells words t;
     }

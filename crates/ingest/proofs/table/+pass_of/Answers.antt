@@ -1,7 +1,7 @@
 use Rattle.std.proofs.Common.{◌≡◌, ◌-◌, ◌<◌, length, take, drop, sym, ap, ◌∙◌, arith, rules}
 use Rattle.ingest.specs.Passes.{higher_of}
 use Rattle.ingest.specs.Table.{highest, passes_of, pass_of}
-use Rattle.ingest.proofs.Ranks.{pass_leaf, pass_chunk, highest-at}
+use Rattle.ingest.proofs.Ranks.{pass_leaf, pass_chunk, highest_at}
 use Rattle.ingest.proofs.table.+pass_of.Goals as goal
 use Rattle.ingest.proofs.table.+pass_of.Goals.{in-Chunked-table, in_default-table}
 
@@ -32,7 +32,7 @@ offset_bounds-table-part t c =
 pub loop-part-preserved : goal.loop-part-preserved
 loop-part-preserved t c =
     let s = c.requires.sound c.args.record c.in-Chunked.from c.in-Chunked.count c.requires.within c.in-Chunked.is in
-    let more = highest-at c.args.table.now c.in-Chunked.from c.loop-part.part (omega arith) (omega arith) in
+    let more = highest_at c.args.table.now c.in-Chunked.from c.loop-part.part (omega arith) (omega arith) in
     let told : c.match-table-part.pass ≡ pass_of c.args.table.now c.loop-part.part =
     elim c.match-table-part.branch [
       | in-Chunked-table w ↦ w.pass-is ∙ w.pass_of-pass.ensures

@@ -1,7 +1,7 @@
 use Rattle.std.proofs.Common.{◌≡◌, ◌+◌, ◌-◌, ◌*◌, cond, map, length, get_or, take, drop, sym, ap, ◌∙◌, subst, arith}
 use Rattle.ingest.specs.Rows.{bit_at, leaf_rows, Within}
 use Rattle.ingest.specs.Table.{leaf_height}
-use Rattle.ingest.proofs.Written.{dense-rows, rows_from}
+use Rattle.ingest.proofs.Written.{dense_rows, rows_from}
 use Rattle.ingest.proofs.write.write_leaf.Goals as goal
 
 pub returns-in-Dense : goal.returns-in-Dense
@@ -9,7 +9,7 @@ returns-in-Dense g c =
     let cells = map g.R.Ring.value c.args.cells.now in
     let within = subst (Within (length c.args.cells.now) (length c.args.words.now)) c.in-Dense.is c.requires.within in
     let e : (c.in-Dense.place + c.in-Dense.height) - c.in-Dense.place ≡ c.in-Dense.height = omega arith in
-    dense-rows g.R.Ring.value g.R.Ring.ops.nought c.args.cells.now _ c.in-Dense.place c.in-Dense.height within (c.copy_from_slice.ensures.after ∙ ap (λ n. take n (drop c.in-Dense.place c.args.cells.now)) e)
+    dense_rows g.R.Ring.value g.R.Ring.ops.nought c.args.cells.now _ c.in-Dense.place c.in-Dense.height within (c.copy_from_slice.ensures.after ∙ ap (λ n. take n (drop c.in-Dense.place c.args.cells.now)) e)
     ∙ sym (ap (leaf_rows g.R.Ring.ops cells c.args.words.now) c.in-Dense.is)
 
 pub returns-in-Interleaved : goal.returns-in-Interleaved

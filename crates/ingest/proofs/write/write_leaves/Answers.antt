@@ -5,19 +5,19 @@ use Rattle.ring.specs.Bytes.{over}
 use Rattle.ingest.specs.Found.{found}
 use Rattle.ingest.specs.Order.{record_at}
 use Rattle.ingest.specs.Rows.{leaf_rows, found_rows, Within}
-use Rattle.ingest.proofs.Written.{found_more, leaf_ends, leaf_more, leaf_rows_long, number-found}
+use Rattle.ingest.proofs.Written.{found_more, leaf_ends, leaf_more, leaf_rows_long, number_found}
 use Rattle.ingest.proofs.write.write_leaves.Goals as goal
 
 pub offset_bounds-table-leaves : goal.offset_bounds-table-leaves
 offset_bounds-table-leaves g c =
-    let n = number-found g.R.Ring.ops (map g.R.Ring.value c.args.cells.now) c.args.words.now c.args.table.now c.args.leaves.now c.loop-k.k (omega arith) in
+    let n = number_found g.R.Ring.ops (map g.R.Ring.value c.args.cells.now) c.args.words.now c.args.table.now c.args.leaves.now c.loop-k.k (omega arith) in
     let within = (c.requires.within c.loop-k.k (omega (arith, n.0))).0 in
     let h : get_or c.args.leaves.now.numbers c.loop-k.k 0 < length c.args.table.now = omega (arith, n.1) in
     search rules
 
 pub bounds-table-leaves : goal.bounds-table-leaves
 bounds-table-leaves g c =
-    let n = number-found g.R.Ring.ops (map g.R.Ring.value c.args.cells.now) c.args.words.now c.args.table.now c.args.leaves.now c.loop-k.k (omega arith) in
+    let n = number_found g.R.Ring.ops (map g.R.Ring.value c.args.cells.now) c.args.words.now c.args.table.now c.args.leaves.now c.loop-k.k (omega arith) in
     let within = (c.requires.within c.loop-k.k (omega (arith, n.0))).0 in
     omega (arith, n.1)
 
@@ -37,7 +37,7 @@ slice_bounds-write_leaf-end g c =
 
 pub write_leaf-requires : goal.write_leaf-requires
 write_leaf-requires g c =
-    let n = number-found g.R.Ring.ops (map g.R.Ring.value c.args.cells.now) c.args.words.now c.args.table.now c.args.leaves.now c.loop-k.k (omega arith) in
+    let n = number_found g.R.Ring.ops (map g.R.Ring.value c.args.cells.now) c.args.words.now c.args.table.now c.args.leaves.now c.loop-k.k (omega arith) in
     let ends = leaf_ends g.R.Ring.ops (map g.R.Ring.value c.args.cells.now) c.args.words.now c.args.table.now c.args.leaves.now c.loop-k.k c.loop-k.at c.own_height-rows.result (length c.loop-k.buffer) (omega arith) c.loop-k.invariant.0 c.own_height-rows.ensures (omega (arith, c.requires.room)) in
     let rows = c.own_height-rows.result in
     let e : (c.loop-k.at + rows) - c.loop-k.at ≡ rows = omega arith in
@@ -57,7 +57,7 @@ loop-k-preserved g c =
     let t = c.args.table.now in
     let k = c.loop-k.k in
     let n = get_or ls.numbers k 0 in
-    let number = number-found g.R.Ring.ops (map g.R.Ring.value c.args.cells.now) c.args.words.now c.args.table.now c.args.leaves.now c.loop-k.k (omega arith) in
+    let number = number_found g.R.Ring.ops (map g.R.Ring.value c.args.cells.now) c.args.words.now c.args.table.now c.args.leaves.now c.loop-k.k (omega arith) in
     let ends = leaf_ends g.R.Ring.ops (map g.R.Ring.value c.args.cells.now) c.args.words.now c.args.table.now c.args.leaves.now c.loop-k.k c.loop-k.at c.own_height-rows.result (length c.loop-k.buffer) (omega arith) c.loop-k.invariant.0 c.own_height-rows.ensures (omega (arith, c.requires.room)) in
     let rows = c.own_height-rows.result in
     let before = found_rows g.R.Ring.ops cells words t (take k (found ls)) in
