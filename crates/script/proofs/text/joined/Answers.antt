@@ -6,14 +6,14 @@ use Rattle.script.proofs.text.joined.Goals.{then-place-gt0+in-ok-push, else-plac
 
 pub loop-place-preserved : goal.loop-place-preserved
 loop-place-preserved c =
-    let digits = c.as-str.ensures.value ∙ c.in-ok-digits.ensures.ok in
+    let digits = c.as_str.ensures.value ∙ c.in_ok-digits.ensures.ok in
     elim c.if-place-gt0.branch [
       | then-place-gt0+in-ok-push w ↦
-          commas_next c.args.numbers.now c.loop-place.place c.loop-place-test.true _ _ _ _ c.loop-place.invariant digits c.in-ok-push-str.ensures.bytes
+          commas_next c.args.numbers.now c.loop-place.place c.loop-place-test.true _ _ _ _ c.loop-place.invariant digits c.in_ok-push_str.ensures.bytes
           w.if-place-gt0.true
-          (ap string_bytes w.text-is ∙ w.in-ok-push.ensures.bytes ∙ ap (λ l. string_bytes c.loop-place.text ++ l) (encode_ascii 44 (omega arith)))
+          (ap string_bytes w.text-is ∙ w.in_ok-push.ensures.bytes ∙ ap (λ l. string_bytes c.loop-place.text ++ l) (encode_ascii 44 (omega arith)))
       | else-place-gt0 w ↦
-          commas_first c.args.numbers.now c.loop-place.place c.loop-place-test.true _ _ _ _ c.loop-place.invariant digits c.in-ok-push-str.ensures.bytes
+          commas_first c.args.numbers.now c.loop-place.place c.loop-place-test.true _ _ _ _ c.loop-place.invariant digits c.in_ok-push_str.ensures.bytes
           w.if-place-gt0.false
           (ap string_bytes w.text-is)
     ]
