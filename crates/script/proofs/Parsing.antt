@@ -9,7 +9,7 @@ use Rattle.script.specs.declared.call.Kind.{Kind}
 use Rattle.script.specs.Calls.{Said, RingSaid, byte_length, zero as zeroSaid, one, plus, minus, times, equal, at_ring, kind_of, operands_say, new_says, minimum_says, show_says, height_says, encode_layout_says, encode_says, read_says, bool_says, operation_says, layout_says, ring_says, kind_says, meaning}
 use Rattle.words.specs.Arguments.{and, or, with, at}
 use Rattle.words.specs.Cuts.{texts}
-use Rattle.words.proofs.Arguments.{arg, at-slice, long}
+use Rattle.words.proofs.Arguments.{arg, at_slice, long}
 
 abbrev Slices : Type 0
 Slices = List (Bor (List ℕ))

@@ -5,7 +5,7 @@ use Rattle.std.proofs.lemmas.List.{nil_from_length}
 use Rattle.std.proofs.lemmas.Bool.{eqb-true}
 use Rattle.words.specs.Arguments.{at}
 use Rattle.words.specs.Cuts.{texts}
-use Rattle.words.proofs.Arguments.{arg, at-slice, long}
+use Rattle.words.proofs.Arguments.{arg, at_slice, long}
 use Rattle.script.specs.Lines.{is_skipped}
 
 module _ (ps : List (Bor (List ℕ))) where
