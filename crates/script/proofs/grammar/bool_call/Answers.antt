@@ -1,5 +1,4 @@
-use Rattle.std.proofs.Common.{Some, None, sym, refl, ap, ◌∙◌}
-use Rattle.std.specs.Option.{option_map}
+use Rattle.std.proofs.Common.{Some, None}
 use Rattle.script.specs.Calls.{from_bool}
 use Rattle.words.specs.Words.{truth_of}
 use Rattle.words.proofs.Arguments.{count_no, one_told}

@@ -1,4 +1,4 @@
-use Rattle.std.proofs.Common.{Some, None, vec_items, sym, refl, ap, ◌∙◌}
+use Rattle.std.proofs.Common.{Some, None, vec_items, sym, ap, ◌∙◌}
 use Rattle.std.specs.Option.{option_map}
 use Rattle.script.specs.Calls.{read}
 use Rattle.words.specs.Words.{bytes_of}

@@ -1,4 +1,4 @@
-use Rattle.std.proofs.Common.{Some, None, string_bytes, sym, refl, ap, ◌∙◌}
+use Rattle.std.proofs.Common.{Some, None, string_bytes, sym, ap, ◌∙◌}
 use Rattle.std.specs.Option.{option_map}
 use Rattle.script.specs.Calls.{show}
 use Rattle.words.specs.Words.{name_of}

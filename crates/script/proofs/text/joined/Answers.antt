@@ -1,4 +1,4 @@
-use Rattle.std.proofs.Common.{◌++◌, string_bytes, sym, ap, ◌∙◌, arith}
+use Rattle.std.proofs.Common.{◌++◌, string_bytes, ap, ◌∙◌, arith}
 use Rattle.std.proofs.lemmas.Str.Ascii.{encode_ascii}
 use Rattle.script.proofs.Writing.{commas_next, commas_first, commas_all}
 use Rattle.script.proofs.text.joined.Goals as goal

@@ -1,4 +1,4 @@
-use Rattle.std.proofs.Common.{◌≡◌, ℕ, List, IfOk, string_bytes, ap, ◌∙◌, subst}
+use Rattle.std.proofs.Common.{◌≡◌, ℕ, List, IfOk, string_bytes, subst}
 use Rattle.layout.specs.Layout.{shape}
 use Rattle.script.proofs.Writing.{sizes_told}
 use Rattle.script.proofs.text.sizes_text.Goals as goal

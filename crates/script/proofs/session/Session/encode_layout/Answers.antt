@@ -1,4 +1,4 @@
-use Rattle.std.proofs.Common.{ltb, [], ◌∷◌, length, sym, ap, ◌∙◌, arith}
+use Rattle.std.proofs.Common.{ltb, [], ◌∷◌, ap, ◌∙◌, arith}
 use Rattle.std.proofs.lemmas.List.{with_items_is}
 use Rattle.ring.specs.Checks.{verdict, when}
 use Rattle.layout.specs.declared.error.JaggedLayoutError.TheVariants.{BufferTooShort}
