@@ -1,15 +1,11 @@
 -- What `==` answers at the ring kinds of a script, and the replies with it. Assumes nothing.
-use Rattle.std.proofs.Common.{◌≡◌, ℕ, Bool, true, false, ◌&&◌, eqb, List, length, IfOk, Ok, Err, Decides, MatchBool, Result, refl, sym, subst}
+use Rattle.std.proofs.Common.{◌≡◌, Bool, true, false, ◌&&◌, eqb, length, IfOk, Ok, Err, MatchBool, Result, refl, sym, subst}
 use Rattle.ring.specs.Kinds.{residue_value, word_value}
-use Rattle.ring.specs.Operations.{Operations}
 use Rattle.ring.specs.Remainders.{decides}
-use Rattle.ring.specs.declared.pair.Pair.{Pair}
-use Rattle.ring.specs.declared.residue.Residue.{Residue}
-use Rattle.ring.specs.declared.word.Word.{Word}
 use Rattle.script.specs.declared.answer.Answer.{Answer}
 use Rattle.script.specs.Calls.{RingSaid, byte_length, encode, read, zero, one, plus, minus, times, from_bool, equal}
 use Rattle.script.specs.Kits.{Kit, residue_kit, word_kit, pair_kit}
-use Rattle.script.specs.Replies.{RingReply, Given}
+use Rattle.script.specs.Replies.{RingReply}
 
 -- a kit whose `==` answers as a function of the two elements
 abbrev pub with_eq : {E : Type 0} → Kit E → (E → E → Bool) → Kit E

@@ -1,11 +1,9 @@
 -- Calls by their words. Assumes nothing.
-use Rattle.std.proofs.Common.{◌≡◌, ℕ, ◌-◌, Bool, true, false, cond, eqb, List, [], ◌∷◌, map, length, get_or, take, drop, Some, None, codes, Option, sym, refl, ap, ◌∙◌, arith, Bor}
+use Rattle.std.proofs.Common.{◌≡◌, ℕ, ◌-◌, Bool, true, false, cond, eqb, List, length, take, drop, Some, None, Option, sym, ap, ◌∙◌, Bor}
 use Rattle.std.specs.Option.{option_map}
-use Rattle.std.specs.Str.{bytes_eq}
-use Rattle.std.proofs.lemmas.List.{length-map, drop-map, take_rest, nil_from_length}
-use Rattle.std.proofs.lemmas.Bool.{eq-eqb, ne_eqb, eqb-true}
+use Rattle.std.proofs.lemmas.List.{drop-map, take_rest}
 use Rattle.script.specs.declared.call.Kind.{Kind}
-use Rattle.script.specs.Calls.{Said, RingSaid, byte_length, zero as zeroSaid, one, plus, minus, times, equal, at_ring, kind_of, operands_say, new_says, minimum_says, show_says, height_says, encode_layout_says, encode_says, read_says, bool_says, operation_says, layout_says, ring_says, kind_says, meaning}
+use Rattle.script.specs.Calls.{Said, RingSaid, byte_length, zero as zeroSaid, one, plus, minus, times, equal, at_ring, kind_of, new_says, minimum_says, show_says, height_says, encode_layout_says, encode_says, read_says, bool_says, operation_says, layout_says, ring_says, kind_says, meaning}
 use Rattle.words.specs.Arguments.{and, or, with, at}
 use Rattle.words.specs.Cuts.{texts}
 use Rattle.words.proofs.Arguments.{arg, at_slice, long}

@@ -1,8 +1,5 @@
-use Rattle.std.proofs.Common.{◌≡◌, IfOk, sym, subst}
-use Rattle.script.specs.declared.call.Kind.{Kind}
 use Rattle.script.specs.Calls.{ring_said}
 use Rattle.script.specs.Kits.{residue_kit, word_kit, pair_kit}
-use Rattle.script.specs.Replies.{KindReply}
 use Rattle.script.proofs.Equal.{made_by, residue_answers, word_answers, pair_answers}
 use Rattle.script.proofs.ringing.ring_answer.Goals as goal
 
