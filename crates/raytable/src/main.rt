@@ -1,5 +1,6 @@
 // raytable: reads a script of calls from standard input and prints a record of each.
 #![tactic(auto)]
+
 use script::{Session, step};
 use std::io;
 use std::io::Read;

@@ -1,7 +1,7 @@
 -- What calls are answered. Assumes nothing.
-use Rattle.std.proofs.Common.{◌≡◌, ℕ, Bool, true, false, eqb, List, ◌++◌, length, Ok, Err, codes, decimal, MatchBool, Result, sym, refl, ap, ◌∙◌, subst}
+use Rattle.std.proofs.Common.{◌≡◌, ℕ, Bool, List, ◌++◌, length, Ok, Err, codes, decimal, MatchBool, Result, sym, ap, ◌∙◌, subst}
 use lib.ListN.{length-replicate}
-use Rattle.std.proofs.lemmas.Bool.{eq-eqb, ne_eqb}
+use Rattle.std.proofs.lemmas.Bool.{eq-eqb}
 use Rattle.ring.specs.Bytes.{over}
 use Rattle.script.specs.declared.answer.Answer.{Answer}
 use Rattle.script.specs.Kits.{Kit}

@@ -1,15 +1,12 @@
 -- Calls by their words. Assumes nothing.
-use denote.Slice.{shr_slice_at}
-use Rattle.std.proofs.Common.{◌≡◌, ℕ, ◌-◌, Bool, true, false, cond, eqb, List, [], ◌∷◌, map, length, get_or, take, drop, Some, None, codes, Option, sym, refl, ap, ◌∙◌, arith, Bor}
+use Rattle.std.proofs.Common.{◌≡◌, ℕ, ◌-◌, Bool, true, false, cond, eqb, List, length, take, drop, Some, None, Option, sym, ap, ◌∙◌, Bor}
 use Rattle.std.specs.Option.{option_map}
-use Rattle.std.specs.Str.{bytes_eq}
-use Rattle.std.proofs.lemmas.List.{length-map, drop-map, take_rest, nil_from_length}
-use Rattle.std.proofs.lemmas.Bool.{eq-eqb, ne_eqb, eqb-true}
+use Rattle.std.proofs.lemmas.List.{drop-map, take_rest}
 use Rattle.script.specs.declared.call.Kind.{Kind}
-use Rattle.script.specs.Calls.{Said, RingSaid, byte_length, zero as zeroSaid, one, plus, minus, times, equal, at_ring, kind_of, operands_say, new_says, minimum_says, show_says, height_says, encode_layout_says, encode_says, read_says, bool_says, operation_says, layout_says, ring_says, kind_says, meaning}
+use Rattle.script.specs.Calls.{Said, RingSaid, byte_length, zero as zeroSaid, one, plus, minus, times, equal, at_ring, kind_of, new_says, minimum_says, show_says, height_says, encode_layout_says, encode_says, read_says, bool_says, operation_says, layout_says, ring_says, kind_says, meaning}
 use Rattle.words.specs.Arguments.{and, or, with, at}
 use Rattle.words.specs.Cuts.{texts}
-use Rattle.words.proofs.Arguments.{arg, at-slice, long}
+use Rattle.words.proofs.Arguments.{arg, at_slice, long}
 
 abbrev Slices : Type 0
 Slices = List (Bor (List ℕ))
@@ -31,7 +28,7 @@ module _ (name : List ℕ) (ps : Slices) where
 
   pub kind_told : eqb (length ps) 0 ≡ false → (k : Option Kind) → k ≡ kind_of (arg ps 0) → (o : Option RingSaid) → o ≡ ring_says name (texts (take (length ps - 1) (drop 1 ps))) → and k (λ kind. option_map (at_ring kind) o) ≡ kind_says name (texts ps)
   kind_told e k ek o eo =
-      let pk = ek ∙ ap kind_of (shr_slice_at ps 0) in
+      let pk = ek ∙ ap kind_of (at_slice ps 0) in
       let po = eo ∙ ap (λ l. ring_says name (texts l)) (take_rest ps 1) ∙ ap (ring_says name) (sym (drop-map (λ (q : Bor (List ℕ)). q.now) 1 ps)) in
       (λ t. and (pk t) (λ kind. option_map (at_ring kind) (po t)))
       ∙ sym (ap (λ n. cond (eqb n 0) None (and (kind_of (at (texts ps) 0)) (λ kind. option_map (at_ring kind) (ring_says name (drop 1 (texts ps)))))) (long ps) ∙ ap (λ b. cond b None (and (kind_of (at (texts ps) 0)) (λ kind. option_map (at_ring kind) (ring_says name (drop 1 (texts ps)))))) e)
@@ -45,7 +42,7 @@ module _ (ps : Slices) where
   pub words-told : eqb (length ps) 0 ≡ false → (a b : Option Said) → a ≡ layout_says (arg ps 0) (texts (take (length ps - 1) (drop 1 ps))) → b ≡ kind_says (arg ps 0) (texts (take (length ps - 1) (drop 1 ps))) → or a b ≡ meaning (texts ps)
   unfolding meaning
   words-told e a b ea eb =
-      let first = shr_slice_at ps 0 in
+      let first = at_slice ps 0 in
       let rest = ap texts (take_rest ps 1) ∙ sym (drop-map (λ (q : Bor (List ℕ)). q.now) 1 ps) in
       (λ t. or (ea t) (eb t))
       ∙ (λ t. or (layout_says (first t) (rest t)) (kind_says (first t) (rest t)))

@@ -1,7 +1,6 @@
 -- What a line of a script says: which call, with what. Assumes nothing.
-use Rattle.std.specs.Prelude.{ℕ, Bool, cond, List, [], ◌∷◌, length, drop, Some, None, vec_items, string_bytes, codes, Option, Vec, ◌==◌}
+use Rattle.std.specs.Prelude.{ℕ, Bool, cond, List, length, drop, Some, None, vec_items, string_bytes, codes, Option, Vec, ◌==◌}
 use Rattle.std.specs.Option.{option_map}
-use Rattle.std.specs.Str.{bytes_eq}
 use Rattle.script.specs.declared.call.Call.{Call}
 use Rattle.script.specs.declared.call.Call.TheVariants as call
 use Rattle.script.specs.declared.call.Kind.{Kind}

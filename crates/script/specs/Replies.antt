@@ -1,10 +1,8 @@
 -- What a call is answered: its record, and the slots after it. Assumes nothing.
-use Rattle.std.specs.Prelude.{◌≡◌, ℕ, Bool, true, cond, ◌⊎◌, List, [], ◌∷◌, ◌++◌, length, replicate, is_ok, Ok, Err, codes, decimal, MatchBool, Result, ◌==◌, ◌≢◌, nat_le, nat_lt}
+use Rattle.std.specs.Prelude.{◌≡◌, ℕ, Bool, cond, ◌⊎◌, List, [], ◌∷◌, ◌++◌, length, replicate, is_ok, Ok, Err, codes, decimal, MatchBool, Result, ◌==◌, ◌≢◌, nat_le, nat_lt}
 use Rattle.ring.specs.Bytes.{over}
 use Rattle.ring.specs.Checks.{verdict, when}
 use Rattle.ring.specs.Coefficients.{told as toldWidth, room_checks}
-use Rattle.ring.specs.declared.fault.RingError.{RingError}
-use Rattle.layout.specs.declared.error.JaggedLayoutError.{JaggedLayoutError}
 use Rattle.layout.specs.declared.error.JaggedLayoutError.TheVariants.{BufferTooShort, NoSuchColumn}
 use Rattle.layout.specs.Encoding.{layout_bytes, layout_length}
 use Rattle.layout.specs.Plan.{checks, planned}

@@ -1,5 +1,6 @@
 // The lines of a script that call layouts and rings: the words say a call, the call is made, and its answer is written.
 #![tactic(auto)]
+
 mod answer;
 mod call;
 mod cells;

@@ -39,7 +39,7 @@ fn element_answer<R: Element + PartialEq>(
     heap: Global,
     call: RingCall,
 ) -> Result<Answer, AllocError>
-    ensures { IfOk result (λ t. RingReply {E = R} (record { ops = R.Ring.ops; value = R.Ring.value; width = R.Coefficient.width; spelling = R.Coefficient.spelling; parts = R.Element.parts; numbered = R.Element.numbered; text = R.Element.text; eq = R.PartialEq.eq }) t (ring_said call)) }
+    ensures { IfOk result (λ t. RingReply {E = R} (record { ops = R.Ring.ops; value = R.Ring.value; width = R.Coefficient.width; spelling = R.Coefficient.spelling; parts = R.Element.parts; numbered = R.Element.numbered; text = R.Element.text; equals = λ x y r. r ≡ R.PartialEq.eq x y }) t (ring_said call)) }
 {
     match call {
         RingCall::ByteLength => Ok(Answer::ByteLength {
@@ -70,7 +70,7 @@ fn encoded<R: Element + PartialEq>(
     numbers: &[usize],
     room: usize,
 ) -> Result<Answer, AllocError>
-    ensures { IfOk result (λ t. RingReply {E = R} (record { ops = R.Ring.ops; value = R.Ring.value; width = R.Coefficient.width; spelling = R.Coefficient.spelling; parts = R.Element.parts; numbered = R.Element.numbered; text = R.Element.text; eq = R.PartialEq.eq }) t (encodeSaid numbers.now room)) }
+    ensures { IfOk result (λ t. RingReply {E = R} (record { ops = R.Ring.ops; value = R.Ring.value; width = R.Coefficient.width; spelling = R.Coefficient.spelling; parts = R.Element.parts; numbered = R.Element.numbered; text = R.Element.text; equals = λ x y r. r ≡ R.PartialEq.eq x y }) t (encodeSaid numbers.now room)) }
 {
     let Some(element) = R::of(numbers) else {
         return Ok(Answer::NoCall);
@@ -83,7 +83,7 @@ fn encoded<R: Element + PartialEq>(
 }
 
 fn read_back<R: Element + PartialEq>(heap: Global, bytes: &[u8]) -> Result<Answer, AllocError>
-    ensures { IfOk result (λ t. RingReply {E = R} (record { ops = R.Ring.ops; value = R.Ring.value; width = R.Coefficient.width; spelling = R.Coefficient.spelling; parts = R.Element.parts; numbered = R.Element.numbered; text = R.Element.text; eq = R.PartialEq.eq }) t (readSaid bytes.now)) }
+    ensures { IfOk result (λ t. RingReply {E = R} (record { ops = R.Ring.ops; value = R.Ring.value; width = R.Coefficient.width; spelling = R.Coefficient.spelling; parts = R.Element.parts; numbered = R.Element.numbered; text = R.Element.text; equals = λ x y r. r ≡ R.PartialEq.eq x y }) t (readSaid bytes.now)) }
 {
     match R::read(bytes) {
         Some(element) => tell(heap, element),
@@ -97,7 +97,7 @@ fn calculated<R: Element + PartialEq>(
     b: &[usize],
     operation: Operation,
 ) -> Result<Answer, AllocError>
-    ensures { IfOk result (λ t. OperationReply {E = R} (record { ops = R.Ring.ops; value = R.Ring.value; width = R.Coefficient.width; spelling = R.Coefficient.spelling; parts = R.Element.parts; numbered = R.Element.numbered; text = R.Element.text; eq = R.PartialEq.eq }) t a.now b.now (operated R.Ring.ops operation)) }
+    ensures { IfOk result (λ t. OperationReply {E = R} (record { ops = R.Ring.ops; value = R.Ring.value; width = R.Coefficient.width; spelling = R.Coefficient.spelling; parts = R.Element.parts; numbered = R.Element.numbered; text = R.Element.text; equals = λ x y r. r ≡ R.PartialEq.eq x y }) t a.now b.now (operated R.Ring.ops operation)) }
 {
     let Some(x) = R::of(a) else {
         return Ok(Answer::NoCall);
@@ -119,7 +119,7 @@ fn operate<R: Ring>(x: R, y: R, operation: Operation) -> R
 }
 
 fn compared<R: Element + PartialEq>(a: &[usize], b: &[usize]) -> Answer
-    ensures { RingReply {E = R} (record { ops = R.Ring.ops; value = R.Ring.value; width = R.Coefficient.width; spelling = R.Coefficient.spelling; parts = R.Element.parts; numbered = R.Element.numbered; text = R.Element.text; eq = R.PartialEq.eq }) result (equalSaid a.now b.now) }
+    ensures { RingReply {E = R} (record { ops = R.Ring.ops; value = R.Ring.value; width = R.Coefficient.width; spelling = R.Coefficient.spelling; parts = R.Element.parts; numbered = R.Element.numbered; text = R.Element.text; equals = λ x y r. r ≡ R.PartialEq.eq x y }) result (equalSaid a.now b.now) }
 {
     let Some(x) = R::of(a) else {
         return Answer::NoCall;

@@ -17,7 +17,7 @@ loop-start-preserved g c =
     let given = c.in-Some.ensures in
     let span : start + c.parts-parts.result - start ≡ parts = omega (arith, given.0, length-take (start + c.parts-parts.result - start) (drop start ns), length-drop start ns, c.if-numbers-start.false, c.loop-start-test.true) in
     let same : c.parts-parts.result ≡ parts = omega (arith, span) in (
-      ap (λ n. start + n) same ∙ reached_more parts g.R.Element.numbered ns _ _ c.in-Some.element start c.in-ok-push.ensures.items inv.0,
+      ap (λ n. start + n) same ∙ reached_more parts g.R.Element.numbered ns _ _ c.in-Some.element start c.in_ok-push.ensures.items inv.0,
       omega (arith, c.if-numbers-start.false, c.loop-start-test.true),
-      each_more parts g.R.Element.numbered ns _ _ c.in-Some.element start c.in-ok-push.ensures.items inv.0 inv.2 (subst (λ n. g.R.Element.numbered (take n (drop start ns)) c.in-Some.element) span given.1),
+      each_more parts g.R.Element.numbered ns _ _ c.in-Some.element start c.in_ok-push.ensures.items inv.0 inv.2 (subst (λ n. g.R.Element.numbered (take n (drop start ns)) c.in-Some.element) span given.1),
     )

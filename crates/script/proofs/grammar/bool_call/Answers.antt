@@ -1,5 +1,4 @@
-use Rattle.std.proofs.Common.{Some, None, sym, refl, ap, ◌∙◌}
-use Rattle.std.specs.Option.{option_map}
+use Rattle.std.proofs.Common.{Some, None}
 use Rattle.script.specs.Calls.{from_bool}
 use Rattle.words.specs.Words.{truth_of}
 use Rattle.words.proofs.Arguments.{count_no, one_told}
@@ -8,8 +7,8 @@ use Rattle.script.proofs.grammar.bool_call.Goals as goal
 pub returns-then-arguments-ne1 : goal.returns-then-arguments-ne1
 returns-then-arguments-ne1 c = count_no c.args.arguments.now 1 _ c.if-arguments-ne1.true
 
-pub returns-in-default : goal.returns-in-default
-returns-in-default c = one_told c.args.arguments.now truth_of (λ set. Some (from_bool set)) c.if-arguments-ne1.false (None) c.in-default.ensures
+pub returns-in_default : goal.returns-in_default
+returns-in_default c = one_told c.args.arguments.now truth_of (λ set. Some (from_bool set)) c.if-arguments-ne1.false (None) c.in_default.ensures
 
 pub returns : goal.returns
 returns c = one_told c.args.arguments.now truth_of (λ set. Some (from_bool set)) c.if-arguments-ne1.false (Some c.in-Some.set) c.in-Some.ensures

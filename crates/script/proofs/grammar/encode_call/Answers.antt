@@ -8,11 +8,11 @@ use Rattle.script.proofs.grammar.encode_call.Goals as goal
 pub returns-then-arguments-ne2 : goal.returns-then-arguments-ne2
 returns-then-arguments-ne2 c = count_no c.args.arguments.now 2 _ c.if-arguments-ne2.true
 
-pub returns-in-default : goal.returns-in-default
-returns-in-default c = two_told c.args.arguments.now list_of size_of (λ element room. Some (encode element room)) c.if-arguments-ne2.false (None) (ap (option_map vec_items) (sym c.in-default.is) ∙ c.in-ok-element.ensures) _ refl
+pub returns-in_default : goal.returns-in_default
+returns-in_default c = two_told c.args.arguments.now list_of size_of (λ element room. Some (encode element room)) c.if-arguments-ne2.false (None) (ap (option_map vec_items) (sym c.in_default.is) ∙ c.in_ok-element.ensures) _ refl
 
-pub returns-in-default-size : goal.returns-in-default-size
-returns-in-default-size c = two_told c.args.arguments.now list_of size_of (λ element room. Some (encode element room)) c.if-arguments-ne2.false (Some (vec_items c.in-Some.element)) (ap (option_map vec_items) (sym c.in-Some.is) ∙ c.in-ok-element.ensures) (None) c.in-default-size.ensures
+pub returns-in_default-size : goal.returns-in_default-size
+returns-in_default-size c = two_told c.args.arguments.now list_of size_of (λ element room. Some (encode element room)) c.if-arguments-ne2.false (Some (vec_items c.in-Some.element)) (ap (option_map vec_items) (sym c.in-Some.is) ∙ c.in_ok-element.ensures) (None) c.in_default-size.ensures
 
 pub returns : goal.returns
-returns c = two_told c.args.arguments.now list_of size_of (λ element room. Some (encode element room)) c.if-arguments-ne2.false (Some (vec_items c.in-Some.element)) (ap (option_map vec_items) (sym c.in-Some.is) ∙ c.in-ok-element.ensures) (Some c.in-Some-size.room) c.in-Some-size.ensures
+returns c = two_told c.args.arguments.now list_of size_of (λ element room. Some (encode element room)) c.if-arguments-ne2.false (Some (vec_items c.in-Some.element)) (ap (option_map vec_items) (sym c.in-Some.is) ∙ c.in_ok-element.ensures) (Some c.in-Some-size.room) c.in-Some-size.ensures

@@ -8,11 +8,11 @@ use Rattle.script.proofs.grammar.height_call.Goals as goal
 pub returns-then-arguments-ne2 : goal.returns-then-arguments-ne2
 returns-then-arguments-ne2 c = count_no c.args.arguments.now 2 _ c.if-arguments-ne2.true
 
-pub returns-in-default : goal.returns-in-default
-returns-in-default c = two_told c.args.arguments.now name_of number_of (λ name column. Some (column_height name column)) c.if-arguments-ne2.false (None) (ap (option_map string_bytes) (sym c.in-default.is) ∙ c.in-ok-name.ensures) _ refl
+pub returns-in_default : goal.returns-in_default
+returns-in_default c = two_told c.args.arguments.now name_of number_of (λ name column. Some (column_height name column)) c.if-arguments-ne2.false (None) (ap (option_map string_bytes) (sym c.in_default.is) ∙ c.in_ok-name.ensures) _ refl
 
-pub returns-in-default-number : goal.returns-in-default-number
-returns-in-default-number c = two_told c.args.arguments.now name_of number_of (λ name column. Some (column_height name column)) c.if-arguments-ne2.false (Some (string_bytes c.in-Some.name)) (ap (option_map string_bytes) (sym c.in-Some.is) ∙ c.in-ok-name.ensures) (None) c.in-default-number.ensures
+pub returns-in_default-number : goal.returns-in_default-number
+returns-in_default-number c = two_told c.args.arguments.now name_of number_of (λ name column. Some (column_height name column)) c.if-arguments-ne2.false (Some (string_bytes c.in-Some.name)) (ap (option_map string_bytes) (sym c.in-Some.is) ∙ c.in_ok-name.ensures) (None) c.in_default-number.ensures
 
 pub returns : goal.returns
-returns c = two_told c.args.arguments.now name_of number_of (λ name column. Some (column_height name column)) c.if-arguments-ne2.false (Some (string_bytes c.in-Some.name)) (ap (option_map string_bytes) (sym c.in-Some.is) ∙ c.in-ok-name.ensures) (Some c.in-Some-number.column) c.in-Some-number.ensures
+returns c = two_told c.args.arguments.now name_of number_of (λ name column. Some (column_height name column)) c.if-arguments-ne2.false (Some (string_bytes c.in-Some.name)) (ap (option_map string_bytes) (sym c.in-Some.is) ∙ c.in_ok-name.ensures) (Some c.in-Some-number.column) c.in-Some-number.ensures

@@ -1,4 +1,4 @@
-use Rattle.std.proofs.Common.{Some, None, vec_items, sym, refl, ap, ◌∙◌}
+use Rattle.std.proofs.Common.{Some, None, vec_items, sym, ap, ◌∙◌}
 use Rattle.std.specs.Option.{option_map}
 use Rattle.script.specs.Calls.{read}
 use Rattle.words.specs.Words.{bytes_of}
@@ -8,8 +8,8 @@ use Rattle.script.proofs.grammar.read_call.Goals as goal
 pub returns-then-arguments-ne1 : goal.returns-then-arguments-ne1
 returns-then-arguments-ne1 c = count_no c.args.arguments.now 1 _ c.if-arguments-ne1.true
 
-pub returns-in-default : goal.returns-in-default
-returns-in-default c = one_told c.args.arguments.now bytes_of (λ bytes. Some (read bytes)) c.if-arguments-ne1.false (None) (ap (option_map vec_items) (sym c.in-default.is) ∙ c.in-ok-bytes.ensures)
+pub returns-in_default : goal.returns-in_default
+returns-in_default c = one_told c.args.arguments.now bytes_of (λ bytes. Some (read bytes)) c.if-arguments-ne1.false (None) (ap (option_map vec_items) (sym c.in_default.is) ∙ c.in_ok-bytes.ensures)
 
 pub returns : goal.returns
-returns c = one_told c.args.arguments.now bytes_of (λ bytes. Some (read bytes)) c.if-arguments-ne1.false (Some (vec_items c.in-Some.bytes)) (ap (option_map vec_items) (sym c.in-Some.is) ∙ c.in-ok-bytes.ensures)
+returns c = one_told c.args.arguments.now bytes_of (λ bytes. Some (read bytes)) c.if-arguments-ne1.false (Some (vec_items c.in-Some.bytes)) (ap (option_map vec_items) (sym c.in-Some.is) ∙ c.in_ok-bytes.ensures)

@@ -10,4 +10,4 @@ pub returns-in-NoElement : goal.returns-in-NoElement
 returns-in-NoElement c = rw c.in-NoElement.is c.format-in-NoElement.ensures.ok
 
 pub returns-in-RingFault : goal.returns-in-RingFault
-returns-in-RingFault c = rw c.in-RingFault.is c.ring-fault-text.ensures
+returns-in-RingFault c = rw c.in-RingFault.is c.ring_fault_text.ensures

@@ -7,5 +7,5 @@ use Rattle.script.proofs.text.layout_text.Goals as goal
 pub returns : goal.returns
 returns c =
     subst (λ (text : List ℕ). IfOk c.format.result (λ s. string_bytes s ≡ text))
-    (layout_told (shape c.args.layout.now) c.in-ok-variables.ensures c.in-ok-sizes.ensures (c.in-ok-heights.ensures ∙ ap commas c.cumulative-heights.ensures.value))
+    (layout_told (shape c.args.layout.now) c.in_ok-variables.ensures c.in_ok-sizes.ensures (c.in_ok-heights.ensures ∙ ap commas c.cumulative_heights.ensures.value))
     c.format.ensures.ok

@@ -1,4 +1,4 @@
-use Rattle.std.proofs.Common.{ltb, [], ◌∷◌, length, sym, ap, ◌∙◌, arith}
+use Rattle.std.proofs.Common.{ltb, [], ◌∷◌, ap, ◌∙◌, arith}
 use Rattle.std.proofs.lemmas.List.{with_items_is}
 use Rattle.ring.specs.Checks.{verdict, when}
 use Rattle.layout.specs.declared.error.JaggedLayoutError.TheVariants.{BufferTooShort}
@@ -12,8 +12,8 @@ use Rattle.script.proofs.session.Session.encode_layout.Goals as goal
 pub returns-in-Ok : goal.returns-in-Ok
 returns-in-Ok c =
     let S = shape c.held-layout.result in
-    let was = c.deref-mut.ensures.value ∙ c.in-ok-buffer.ensures.0 in
+    let was = c.deref_mut.ensures.value ∙ c.in_ok-buffer.ensures.0 in
     let now = c.in-Ok.ensures.after in
-    let kept = with_items_is c.in-ok-buffer.buffer c.encode-layout.new.bytes (omega (arith, c.encode-layout.auto.bytes, c.deref-mut.ensures.len)) in
+    let kept = with_items_is c.in_ok-buffer.buffer c.encode_layout.new.bytes (omega (arith, c.encode_layout.auto.bytes, c.deref_mut.ensures.len)) in
     written-told layout_fault (layout_bytes S) (λ n. verdict (when (ltb n (layout_length S)) (BufferTooShort (layout_length S) n) ∷ []) (layout_length S)) c.args.room _ was c.in-Ok.written _ c.in-Ok.ensures.answer (kept ∙ now)
     ∙ ap (λ T. encode_reply T c.args.room) c.held-layout.ensures
