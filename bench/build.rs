@@ -1,7 +1,7 @@
 //! Links the static library that `bench/run` builds first.
 
 fn main() {
-    println!("cargo::rustc-link-search=native=../target/staticlib");
+    println!("cargo::rustc-link-search=native=../crates/export/out");
     println!("cargo::rustc-link-lib=static=export");
-    println!("cargo::rerun-if-changed=../target/staticlib/libexport.a");
+    println!("cargo::rerun-if-changed=../crates/export/out/libexport.a");
 }

@@ -19,7 +19,7 @@ import reference
 
 HERE = os.path.dirname(os.path.abspath(__file__))
 ORACLE = os.path.join(HERE, "target", "release", "oracle")
-RAYTABLE = os.path.join(HERE, "..", "target", "bin", "raytable")
+RAYTABLE = os.path.join(HERE, "..", "crates", "rayscript", "out", "rayscript")
 SCRIPTS = os.path.join(HERE, "target", "scripts")
 ORIGINAL = os.path.join(HERE, "original")
 DIFFERENCES = os.path.join(HERE, "..", "docs", "DIFFERENCES.md")
@@ -157,7 +157,7 @@ def main():
     check_sources()
     subprocess.run(["cargo", "build", "--release", "--offline", "--quiet"], cwd=HERE, check=True)
     if not os.path.exists(options.raytable):
-        sys.exit(f"{options.raytable} is not there: `rt check raytable` builds it")
+        sys.exit(f"{options.raytable} is not there: `rt run` in crates/rayscript builds it")
     absent = unknown(options.raytable)
 
     tally = Tally()
