@@ -1,5 +1,5 @@
 -- Cells by their numbers. Assumes nothing.
-use Rattle.std.proofs.Common.{◌≡◌, ℕ, ◌%◌, Bool, eqb, List, length, codes, MatchBool, sym, subst}
+use Rattle.std.proofs.Common.{◌≡◌, ℕ, ◌%◌, Bool, List, length, codes, MatchBool, sym, subst}
 use Rattle.std.proofs.lemmas.Bool.{eq-eqb, ne_eqb}
 use Rattle.script.specs.Cells.{Numbered}
 use Rattle.script.specs.Kits.{Kit}

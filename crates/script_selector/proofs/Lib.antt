@@ -1,3 +1,4 @@
+pub mod Equal
 pub mod Giving
 pub mod Reading
 pub mod Telling

@@ -1,5 +1,6 @@
 // The lines of a script that call the selector: weights of a point, the selector's table, and its value.
 #![tactic(auto)]
+
 mod answering;
 mod call;
 mod fault;

@@ -1,5 +1,5 @@
 // Makes the calls on cells, at any ring kind.
-ghost use Rattle.std.specs.Prelude.{IfOk, string_bytes};
+ghost use Rattle.std.specs.Prelude.{◌≡◌, IfOk, string_bytes};
 ghost use Rattle.layout.specs.Layout.{shape};
 ghost use Rattle.script_selector.specs.Replies.{Weights, Tabled, Evaluated};
 
