@@ -1,10 +1,9 @@
 // raytable: reads a script of calls from standard input and prints a record of each.
 #![tactic(auto)]
 
-use script::{Session, step};
+use script::{Mark, Session, pieces, step};
 use std::io;
 use std::io::Read;
-use words::{Mark, pieces};
 
 fn main(rt: HostRuntime) -> io::Result<()> {
     let heap = rt.alloc();

@@ -21,3 +21,6 @@ pub use grammar::{parse, ring_kind};
 pub use line::step;
 pub use session::Session;
 pub use text::{answer_text, joined, record};
+
+// What a script's text is cut by.
+pub use words::{MAX_CELLS, Mark, pieces, words};
