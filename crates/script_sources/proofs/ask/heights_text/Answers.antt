@@ -8,11 +8,11 @@ use Rattle.script_sources.specs.Texts.{ingest_fault}
 use Rattle.script_sources.proofs.Making.{accepted_told}
 use Rattle.script_sources.proofs.ask.heights_text.Goals as goal
 
-pub returns-in-ok-all : goal.returns-in-ok-all
-returns-in-ok-all c =
+pub returns-in_ok-all-in-Ok : goal.returns-in_ok-all-in-Ok
+returns-in_ok-all-in-Ok c =
     let table = c.args.table.now in
     let buffer = c.args.buffer.now in
-    let all = c.in-ok-all.ensures ∙ ap commas c.in-Ok.ensures.written in
+    let all = c.in_ok-all-in-Ok.ensures ∙ ap commas c.in-Ok.ensures.written in
     subst (λ (text : List ℕ). IfOk c.format.result (λ s. string_bytes s ≡ text))
     (accepted_told (λ n. field "written" (decimal n) ++ field "heights" (commas (over (take c.args.sources (heights_of table)) buffer))) ingest_fault (verdict (heights_checks table c.args.sources (length buffer)) c.args.sources) c.in-Ok.written _ c.in-Ok.ensures.answer
     (λ t. codes "ok written=" ++ (decimal c.in-Ok.written ++ (codes " heights=" ++ all t))))

@@ -4,7 +4,7 @@ use Rattle.script_sources.proofs.cells.block_words.Goals as goal
 
 pub loop-number-preserved : goal.loop-number-preserved
 loop-number-preserved c =
-    c.in-ok-push.ensures.items
+    c.in_ok-push.ensures.items
     ∙ ap (λ l. l ++ get_or c.args.numbers.now c.loop-number.number-index 0 ∷ []) c.loop-number.invariant
     ∙ sym (take_more c.args.numbers.now c.loop-number.number-index 0 c.loop-number-test.true)
 

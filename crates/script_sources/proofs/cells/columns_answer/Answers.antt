@@ -1,4 +1,4 @@
-use Rattle.std.proofs.Common.{ℕ, List, Some, vec_items, string_bytes, refl, ◌∙◌, subst}
+use Rattle.std.proofs.Common.{◌≡◌, ℕ, List, Some, vec_items, string_bytes, refl, ◌∙◌, subst}
 use Rattle.layout.specs.Layout.{shape}
 use Rattle.script.specs.Kits.{Kit}
 use Rattle.script_sources.specs.Replies.{ReadReply, Given, Telling}
@@ -7,20 +7,20 @@ use Rattle.script_sources.proofs.cells.columns_answer.Goals as goal
 
 pub returns : goal.returns
 returns g c =
-    let K : Kit g.row.R.Denot = record { ops = g.R.Ring.ops; value = g.R.Ring.value; width = g.R.Coefficient.width; spelling = g.R.Coefficient.spelling; parts = g.R.Element.parts; numbered = g.R.Element.numbered; text = g.R.Element.text; equals = g.R.PartialEq.eq } in
+    let K : Kit g.row.R.Denot = record { ops = g.R.Ring.ops; value = g.R.Ring.value; width = g.R.Coefficient.width; spelling = g.R.Coefficient.spelling; parts = g.R.Element.parts; numbered = g.R.Element.numbered; text = g.R.Element.text; equals = λ x y r. r ≡ g.R.PartialEq.eq x y } in
     let S = shape c.args.layout.now in
     let table = c.args.table.now in
     let words = c.args.words.now in
     let buffer = c.args.buffer.now in
-    let text = string_bytes c.in-ok-text.text in
+    let text = string_bytes c.in_ok-text.text in
     let told = Some text in
     let xs = vec_items c.in-Some.block in
     let bs = vec_items c.in-Some-2.room in
-    given_some K told c.args.cells.now (λ ys. Given K told buffer (λ zs. Telling K told (ReadReply K S table c.args.sources ys words zs))) vec_items _ c.in-Some.block c.in-Some.is c.in-ok-block.ensures
-    (given_some K told buffer (λ zs. Telling K told (ReadReply K S table c.args.sources xs words zs)) vec_items _ c.in-Some-2.room c.in-Some-2.is c.in-ok-room.ensures (
+    given_some K told c.args.cells.now (λ ys. Given K told buffer (λ zs. Telling K told (ReadReply K S table c.args.sources ys words zs))) vec_items _ c.in-Some.block c.in-Some.is c.in_ok-block.ensures
+    (given_some K told buffer (λ zs. Telling K told (ReadReply K S table c.args.sources xs words zs)) vec_items _ c.in-Some-2.room c.in-Some-2.is c.in_ok-room.ensures (
       text,
       refl,
       subst (λ (l : List g.row.R.Denot). ReadReply K S table c.args.sources l words bs text) c.deref.ensures.value
-          (subst (λ (l : List ℕ). ReadReply K S table c.args.sources c.deref.result.now l bs text) (c.deref-2.ensures.value ∙ c.in-ok-bits.ensures)
-          (subst (λ (l : List g.row.R.Denot). ReadReply K S table c.args.sources c.deref.result.now c.deref-2.result.now l text) c.deref-mut.ensures.value c.in-ok-text.ensures)),
+          (subst (λ (l : List ℕ). ReadReply K S table c.args.sources c.deref.result.now l bs text) (c.deref-2.ensures.value ∙ c.in_ok-bits.ensures)
+          (subst (λ (l : List g.row.R.Denot). ReadReply K S table c.args.sources c.deref.result.now c.deref-2.result.now l text) c.deref_mut.ensures.value c.in_ok-text.ensures)),
     ))

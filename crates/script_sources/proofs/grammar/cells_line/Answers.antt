@@ -4,11 +4,11 @@ use Rattle.script_sources.specs.Calls.{Said, said, kind_says}
 use Rattle.script_sources.proofs.Told.{headed_none, headed_some}
 use Rattle.script_sources.proofs.grammar.cells_line.Goals as goal
 
-pub returns-then-is-empty : goal.returns-then-is-empty
-returns-then-is-empty c = headed_none (kind_says c.args.name.now) c.args.arguments.now (sym c.if-is-empty.ensures)
+pub returns-then-is_empty : goal.returns-then-is_empty
+returns-then-is_empty c = headed_none (kind_says c.args.name.now) c.args.arguments.now (sym c.if-is_empty.ensures)
 
 pub returns : goal.returns
 returns c =
-    subst (λ (o : Option Said). IfOk c.kind-call.result (λ r. option_map said r ≡ o))
-    (headed_some (kind_says c.args.name.now) c.args.arguments.now (sym c.if-is-empty.ensures) _ refl)
-    c.kind-call.ensures
+    subst (λ (o : Option Said). IfOk c.kind_call.result (λ r. option_map said r ≡ o))
+    (headed_some (kind_says c.args.name.now) c.args.arguments.now (sym c.if-is_empty.ensures) _ refl)
+    c.kind_call.ensures

@@ -7,11 +7,11 @@ use Rattle.script_sources.proofs.table.chunked.Goals as goal
 pub returns-then-fields-ne2 : goal.returns-then-fields-ne2
 returns-then-fields-ne2 c = count_no c.args.fields.now 2 _ c.if-fields-ne2.true
 
-pub returns-in-default : goal.returns-in-default
-returns-in-default c = two_told c.args.fields.now number_of number_of (λ from count. Some (Chunked from count)) c.if-fields-ne2.false None c.in-default.ensures _ refl
+pub returns-in_default : goal.returns-in_default
+returns-in_default c = two_told c.args.fields.now number_of number_of (λ from count. Some (Chunked from count)) c.if-fields-ne2.false None c.in_default.ensures _ refl
 
-pub returns-in-default-number : goal.returns-in-default-number
-returns-in-default-number c = two_told c.args.fields.now number_of number_of (λ from count. Some (Chunked from count)) c.if-fields-ne2.false (Some c.in-Some.from) c.in-Some.ensures None c.in-default-number.ensures
+pub returns-in_default-number : goal.returns-in_default-number
+returns-in_default-number c = two_told c.args.fields.now number_of number_of (λ from count. Some (Chunked from count)) c.if-fields-ne2.false (Some c.in-Some.from) c.in-Some.ensures None c.in_default-number.ensures
 
 pub returns : goal.returns
 returns c = two_told c.args.fields.now number_of number_of (λ from count. Some (Chunked from count)) c.if-fields-ne2.false (Some c.in-Some.from) c.in-Some.ensures (Some c.in-Some-number.count) c.in-Some-number.ensures

@@ -6,6 +6,6 @@ use Rattle.script_sources.proofs.table.record.Goals as goal
 pub returns : goal.returns
 unfolding record_of
 returns c =
-    c.record-by.ensures
+    c.record_by.ensures
     ∙ ap (λ l. headed fields_say (texts l)) c.deref.ensures.value
-    ∙ ap (headed fields_say) c.in-ok-parts.ensures
+    ∙ ap (headed fields_say) c.in_ok-parts.ensures

@@ -6,7 +6,7 @@ pub loop-init : goal.loop-init
 loop-init c = sym (append-nil _)
 
 pub loop-preserved : goal.loop-preserved
-loop-preserved c = repeated_more _ _ (vec_items c.args.table.now) c.loop.counter c.args.«record» c.in-ok-push.ensures.items c.loop.invariant
+loop-preserved c = repeated_more _ _ (vec_items c.args.table.now) c.loop.counter c.args.«record» c.in_ok-push.ensures.items c.loop.invariant
 
 pub returns : goal.returns
 returns c =

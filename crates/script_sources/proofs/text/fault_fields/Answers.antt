@@ -19,8 +19,8 @@ returns-in-BufferTooShort c = rw c.in-BufferTooShort.is c.format-in-BufferTooSho
 pub returns-in-NoSuchColumn : goal.returns-in-NoSuchColumn
 returns-in-NoSuchColumn c = rw c.in-NoSuchColumn.is c.format-in-NoSuchColumn.ensures.ok
 
-pub returns-in-default : goal.returns-in-default
-returns-in-default c =
-    IfOk-weaker c.source-fields.result _ (λ s. string_bytes s ≡ ingest_fault_fields c.args.fault.now)
-    (λ s told. told (of_source c.args.fault.now c.in-default.not-CommittedVectorTooShort c.in-default.not-ColumnCountMismatch c.in-default.not-TableOutOfOrder c.in-default.not-BufferTooShort c.in-default.not-NoSuchColumn))
-    c.source-fields.ensures
+pub returns-in_default : goal.returns-in_default
+returns-in_default c =
+    IfOk-weaker c.source_fields.result _ (λ s. string_bytes s ≡ ingest_fault_fields c.args.fault.now)
+    (λ s told. told (of_source c.args.fault.now c.in_default.not-CommittedVectorTooShort c.in_default.not-ColumnCountMismatch c.in_default.not-TableOutOfOrder c.in_default.not-BufferTooShort c.in_default.not-NoSuchColumn))
+    c.source_fields.ensures

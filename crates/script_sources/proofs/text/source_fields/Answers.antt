@@ -22,6 +22,6 @@ returns-in-PlaceOutsideBlock c = IfOk-weaker c.format-in-PlaceOutsideBlock.resul
 pub returns-in-ColumnHeightOverflow : goal.returns-in-ColumnHeightOverflow
 returns-in-ColumnHeightOverflow c = IfOk-weaker c.format-in-ColumnHeightOverflow.result _ (λ s. OfSource c.args.fault.now → string_bytes s ≡ ingest_fault_fields c.args.fault.now) (λ s e _. rw c.in-ColumnHeightOverflow.is e) c.format-in-ColumnHeightOverflow.ensures.ok
 
-pub returns-in-default : goal.returns-in-default
-returns-in-default c h =
-    absurd (of_none c.args.fault.now c.in-default.not-ColumnHeightMismatch c.in-default.not-ZeroStride c.in-default.not-StrideOutOfRange c.in-default.not-PackedWordsTooShort c.in-default.not-PlaceOutsideBlock c.in-default.not-ColumnHeightOverflow h)
+pub returns-in_default : goal.returns-in_default
+returns-in_default c h =
+    absurd (of_none c.args.fault.now c.in_default.not-ColumnHeightMismatch c.in_default.not-ZeroStride c.in_default.not-StrideOutOfRange c.in_default.not-PackedWordsTooShort c.in_default.not-PlaceOutsideBlock c.in_default.not-ColumnHeightOverflow h)
