@@ -1,5 +1,6 @@
 // rayscript: reads a script of calls of all layers from standard input and prints a record of each.
 #![tactic(auto)]
+
 use lines::step;
 use script::Session;
 use std::io;

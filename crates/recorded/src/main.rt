@@ -1,5 +1,6 @@
 // recorded: makes the calls that the original was asked, so that its recorded answers are held against the library's.
 #![tactic(auto)]
+
 use lines::step;
 use script::Session;
 use std::io;
