@@ -3,7 +3,7 @@ use Rattle.std.proofs.Common.{◌≡◌, ℕ, ◌-◌, Bool, true, false, cond, 
 use Rattle.std.specs.Option.{option_map}
 use Rattle.std.proofs.lemmas.List.{drop-map, take_rest}
 use Rattle.script.specs.declared.call.Kind.{Kind}
-use Rattle.script.specs.Calls.{Said, RingSaid, byte_length, zero as zeroSaid, one, plus, minus, times, equal, at_ring, kind_of, new_says, minimum_says, show_says, height_says, encode_layout_says, encode_says, read_says, bool_says, operation_says, layout_says, ring_says, kind_says, meaning}
+use Rattle.script.specs.Calls.{Said, RingSaid, byte_length, zero as zero_said, one, plus, minus, times, equal, at_ring, kind_of, new_says, minimum_says, show_says, height_says, encode_layout_says, encode_says, read_says, bool_says, operation_says, layout_says, ring_says, kind_says, meaning}
 use Rattle.words.specs.Arguments.{and, or, with, at}
 use Rattle.words.specs.Cuts.{texts}
 use Rattle.words.proofs.Arguments.{arg, at_slice, long}
@@ -16,7 +16,7 @@ abbrev pub layout_by : List (List ℕ) → Bool → Bool → Bool → Bool → B
 layout_by arguments a b c d e = cond a (new_says arguments) (cond b (minimum_says arguments) (cond c (show_says arguments) (cond d (height_says arguments) (cond e (encode_layout_says arguments) None))))
 
 abbrev pub ring_by : List ℕ → List (List ℕ) → Bool → Bool → Bool → Bool → Bool → Bool → Option RingSaid
-ring_by name arguments a b c d e f = cond a (with 0 arguments (Some byte_length)) (cond b (with 0 arguments (Some zeroSaid)) (cond c (with 0 arguments (Some one)) (cond d (encode_says arguments) (cond e (read_says arguments) (cond f (bool_says arguments) (operation_says name arguments))))))
+ring_by name arguments a b c d e f = cond a (with 0 arguments (Some byte_length)) (cond b (with 0 arguments (Some zero_said)) (cond c (with 0 arguments (Some one)) (cond d (encode_says arguments) (cond e (read_says arguments) (cond f (bool_says arguments) (operation_says name arguments))))))
 
 abbrev pub operation_by : Option (List ℕ × List ℕ) → Bool → Bool → Bool → Bool → Option RingSaid
 operation_by operands a b c d = and operands (λ p. cond a (Some (plus p.0 p.1)) (cond b (Some (minus p.0 p.1)) (cond c (Some (times p.0 p.1)) (cond d (Some (equal p.0 p.1)) None))))

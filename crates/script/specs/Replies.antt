@@ -2,7 +2,7 @@
 use Rattle.std.specs.Prelude.{◌≡◌, ℕ, Bool, cond, ◌⊎◌, List, [], ◌∷◌, ◌++◌, length, replicate, is_ok, Ok, Err, codes, decimal, MatchBool, Result, ◌==◌, ◌≢◌, nat_le, nat_lt}
 use Rattle.ring.specs.Bytes.{over}
 use Rattle.ring.specs.Checks.{verdict, when}
-use Rattle.ring.specs.Coefficients.{told as toldWidth, room_checks}
+use Rattle.ring.specs.Coefficients.{told as told_width, room_checks}
 use Rattle.layout.specs.declared.error.JaggedLayoutError.TheVariants.{BufferTooShort, NoSuchColumn}
 use Rattle.layout.specs.Encoding.{layout_bytes, layout_length}
 use Rattle.layout.specs.Plan.{checks, planned}
@@ -55,7 +55,7 @@ module _ {E : Type 0} (K : Kit E) (a : Answer) where
   Operation m n f = Given m (λ x. Given n (λ y. Tells (f (K.value x) (K.value y))))
 
   abbrev pub RingReply : RingSaid → Type 0
-  RingReply byte_length = told a ≡ codes "ok" ++ field "byte_length" (decimal (toldWidth K.width))
+  RingReply byte_length = told a ≡ codes "ok" ++ field "byte_length" (decimal (told_width K.width))
   RingReply (encode ns room) = Given ns (λ x. told a ≡ answered (written (K.spelling x) room) ring_fault (verdict (room_checks K.width room) K.width))
   RingReply (read bytes) = ((x : E) × (K.spelling x ≡ bytes) × Element x) ⊎ (((x : E) → K.spelling x ≢ bytes) × (told a ≡ codes "ok" ++ field "element" (codes "none")))
   RingReply zero = Tells K.ops.nought

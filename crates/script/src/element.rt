@@ -1,7 +1,7 @@
 // Ring elements as a script writes them: by the numbers that they are made of.
 ghost use Rattle.std.specs.Prelude.{◌≡◌, ℕ, ◌+◌, ◌<◌, List, ◌++◌, length, take, drop, Some, codes, decimal, MatchOption, ◌≢◌, slice_index};
 ghost use Rattle.std.proofs.Common.{ap, rules};
-ghost use Rattle.ring.specs.Coefficients.{told as toldWidth};
+ghost use Rattle.ring.specs.Coefficients.{told as told_width};
 ghost use Rattle.ring.specs.Kinds.{residue_of, residue_value, word_of, word_value};
 
 use ring::{Coefficient, Pair, Residue, Word};
@@ -20,7 +20,7 @@ pub trait Element: Coefficient + Display {
 
     // How many numbers an element is made of, told as at most 2^64 - 1.
     fn parts() -> usize
-        ensures { result ≡ toldWidth parts };
+        ensures { result ≡ told_width parts };
 
     // The element of these numbers; none where there are too many or too few.
     fn of(numbers: &[usize]) -> Option<Self>

@@ -1,6 +1,6 @@
 // Makes the calls at a ring kind.
 ghost use Rattle.std.specs.Prelude.{◌≡◌, ◌++◌, IfOk, codes};
-ghost use Rattle.script.specs.Calls.{ring_said, encode as encodeSaid, read as readSaid, equal as equalSaid};
+ghost use Rattle.script.specs.Calls.{ring_said, encode as encode_said, read as read_said, equal as equal_said};
 ghost use Rattle.script.specs.Operate.{operate as operated};
 ghost use Rattle.script.specs.Records.{told, field};
 ghost use Rattle.script.specs.Replies.{Operation as OperationReply, RingReply, KindReply};
@@ -70,7 +70,7 @@ fn encoded<R: Element + PartialEq>(
     numbers: &[usize],
     room: usize,
 ) -> Result<Answer, AllocError>
-    ensures { IfOk result (λ t. RingReply {E = R} (record { ops = R.Ring.ops; value = R.Ring.value; width = R.Coefficient.width; spelling = R.Coefficient.spelling; parts = R.Element.parts; numbered = R.Element.numbered; text = R.Element.text; equals = λ x y r. r ≡ R.PartialEq.eq x y }) t (encodeSaid numbers.now room)) }
+    ensures { IfOk result (λ t. RingReply {E = R} (record { ops = R.Ring.ops; value = R.Ring.value; width = R.Coefficient.width; spelling = R.Coefficient.spelling; parts = R.Element.parts; numbered = R.Element.numbered; text = R.Element.text; equals = λ x y r. r ≡ R.PartialEq.eq x y }) t (encode_said numbers.now room)) }
 {
     let Some(element) = R::of(numbers) else {
         return Ok(Answer::NoCall);
@@ -83,7 +83,7 @@ fn encoded<R: Element + PartialEq>(
 }
 
 fn read_back<R: Element + PartialEq>(heap: Global, bytes: &[u8]) -> Result<Answer, AllocError>
-    ensures { IfOk result (λ t. RingReply {E = R} (record { ops = R.Ring.ops; value = R.Ring.value; width = R.Coefficient.width; spelling = R.Coefficient.spelling; parts = R.Element.parts; numbered = R.Element.numbered; text = R.Element.text; equals = λ x y r. r ≡ R.PartialEq.eq x y }) t (readSaid bytes.now)) }
+    ensures { IfOk result (λ t. RingReply {E = R} (record { ops = R.Ring.ops; value = R.Ring.value; width = R.Coefficient.width; spelling = R.Coefficient.spelling; parts = R.Element.parts; numbered = R.Element.numbered; text = R.Element.text; equals = λ x y r. r ≡ R.PartialEq.eq x y }) t (read_said bytes.now)) }
 {
     match R::read(bytes) {
         Some(element) => tell(heap, element),
@@ -119,7 +119,7 @@ fn operate<R: Ring>(x: R, y: R, operation: Operation) -> R
 }
 
 fn compared<R: Element + PartialEq>(a: &[usize], b: &[usize]) -> Answer
-    ensures { RingReply {E = R} (record { ops = R.Ring.ops; value = R.Ring.value; width = R.Coefficient.width; spelling = R.Coefficient.spelling; parts = R.Element.parts; numbered = R.Element.numbered; text = R.Element.text; equals = λ x y r. r ≡ R.PartialEq.eq x y }) result (equalSaid a.now b.now) }
+    ensures { RingReply {E = R} (record { ops = R.Ring.ops; value = R.Ring.value; width = R.Coefficient.width; spelling = R.Coefficient.spelling; parts = R.Element.parts; numbered = R.Element.numbered; text = R.Element.text; equals = λ x y r. r ≡ R.PartialEq.eq x y }) result (equal_said a.now b.now) }
 {
     let Some(x) = R::of(a) else {
         return Answer::NoCall;

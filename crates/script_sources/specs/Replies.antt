@@ -3,7 +3,7 @@ use Rattle.std.specs.Prelude.{◌≡◌, ℕ, ◌-◌, ◌%◌, List, [], ◌∷
 use Rattle.std.specs.List.{range_with_len}
 use Rattle.ring.specs.Bytes.{over}
 use Rattle.ring.specs.Checks.{verdict}
-use Rattle.layout.specs.Shape.{Shape, columns, height as heightIn, area, capacity}
+use Rattle.layout.specs.Shape.{Shape, columns, height as height_in, area, capacity}
 use Rattle.ingest.specs.declared.fault.JaggedIngestError.{JaggedIngestError}
 use Rattle.ingest.specs.declared.record.ConversionPass.TheVariants.{Shared}
 use Rattle.ingest.specs.declared.record.Record.{Record}
@@ -43,7 +43,7 @@ piece_height_reply table column = answered (λ h. field "height" (decimal h)) in
 
 -- the report of columns: each is charged whole to its pass, and the padding is what the capacity has past the area
 abbrev pub columns_fields : Shape → List Record → List ℕ
-columns_fields S table = report_fields (λ p. sum (map (λ y. charge p (pass_of table y) (heightIn S y)) (range_with_len 0 (columns S)))) (capacity S - area S)
+columns_fields S table = report_fields (λ p. sum (map (λ y. charge p (pass_of table y) (height_in S y)) (range_with_len 0 (columns S)))) (capacity S - area S)
 
 -- the report of a committed vector: all is shared, and nothing pads it
 abbrev pub committed_fields : Shape → List ℕ

@@ -2,7 +2,7 @@
 ghost use Rattle.std.specs.Prelude.{◌≡◌, ◌++◌, replicate, IfOk, Some, vec_items, OnOk};
 ghost use Rattle.std.specs.Option.{option_map};
 ghost use Rattle.words.specs.Cuts.{texts};
-ghost use Rattle.script_sources.specs.Tables.{dense_says, interleaved_says, bits_says, chunked_says, fields_say, headed, record_of, repeated, times as timesOf, run_of, table_of};
+ghost use Rattle.script_sources.specs.Tables.{dense_says, interleaved_says, bits_says, chunked_says, fields_say, headed, record_of, repeated, times as times_of, run_of, table_of};
 
 use ingest::Record;
 use std::alloc::{AllocError, Global};
@@ -149,7 +149,7 @@ fn run(heap: Global, item: &[u8]) -> Result<Option<(Record, usize)>, AllocError>
 
 // A record that comes one time.
 fn once(record: Option<Record>) -> Option<(Record, usize)>
-    ensures { option_map repeated result ≡ timesOf «record» (Some 1) }
+    ensures { option_map repeated result ≡ times_of «record» (Some 1) }
 {
     let Some(record) = record else {
         return None;
