@@ -1,19 +1,16 @@
--- One line of a script. Assumes nothing.
-use Rattle.std.specs.Prelude.{◌≡◌, ℕ, Bool, true, false, cond, ◌||◌, List, [], ◌++◌, length, Some, None, codes, decimal, Option, ◌==◌, slice_index, slice_index_or}
+-- One line of a script of all layers. Assumes nothing.
+use Rattle.std.specs.Prelude.{◌≡◌, ℕ, true, false, List, ◌++◌, Some, None, codes, decimal, Option}
 use Rattle.layout.specs.Shape.{Shape}
 use Rattle.words.specs.Cuts.{words}
 use Rattle.script.specs.declared.answer.Answer.{Answer}
 use Rattle.script.specs.Calls.{Said, meaning}
 use Rattle.script.specs.Records.{told}
-use Rattle.script.specs.Replies.{Reply, slots_after}
+use Rattle.script.specs.Lines.{is_skipped}
+use Rattle.script.specs.Replies.{Reply}
 use Rattle.script_selector.specs.Calls as selector
 use Rattle.script_selector.specs.Replies as selected
 use Rattle.script_sources.specs.Calls as sources
 use Rattle.script_sources.specs.Replies as sourced
-
--- no word, or a comment: a first word that begins with a number sign
-abbrev pub is_skipped : List (List ℕ) → Bool
-is_skipped ws = length ws == 0 || slice_index (slice_index_or ws 0 []) 0 == 35
 
 -- a text that is told, or else what is told in its place
 abbrev pub OrElse : Option (List ℕ) → List ℕ → Type 0 → Type 0
@@ -38,12 +35,3 @@ module _ (slots : List ℕ → Shape) (ws : List (List ℕ)) where
 abbrev pub Prints : (List ℕ → Shape) → ℕ → List ℕ → Option (List ℕ) → Type 0
 Prints slots number line None = is_skipped (words line) ≡ true
 Prints slots number line (Some printed) = (is_skipped (words line) ≡ false) × ((text : List ℕ) × Tells slots (words line) (meaning (words line)) text × (printed ≡ decimal number ++ (codes " " ++ text)))
-
--- the slots after a call, if there is one
-abbrev pub slots_by : (List ℕ → Shape) → Option Said → List ℕ → Shape
-slots_by slots None other = slots other
-slots_by slots (Some call) other = slots_after slots call other
-
--- the slots after a line
-abbrev pub slots_after_line : (List ℕ → Shape) → List ℕ → List ℕ → Shape
-slots_after_line slots line other = cond (is_skipped (words line)) (slots other) (slots_by slots (meaning (words line)) other)

@@ -3,10 +3,11 @@ ghost use Rattle.std.specs.Prelude.{◌≡◌, ℕ, List, IfOk, string_bytes, On
 ghost use Rattle.std.specs.Option.{option_map};
 ghost use Rattle.words.specs.Cuts.{texts};
 ghost use Rattle.script.specs.Calls.{meaning};
+ghost use Rattle.script.specs.Lines.{slots_by, slots_after_line};
 ghost use Rattle.script.specs.Slots.{slot};
-ghost use Rattle.lines.specs.Lines.{is_skipped, SourceTells, SelectorTells, Tells, Prints, slots_by, slots_after_line};
+ghost use Rattle.lines.specs.Lines.{SourceTells, SelectorTells, Tells, Prints};
 
-use script::{Session, answer_text, parse};
+use script::{Session, answer_text, is_skipped, parse};
 use std::alloc::{AllocError, Global};
 use words::words;
 
@@ -27,17 +28,6 @@ pub fn step(
     let text = told(session, heap, &words)?;
     let record = format!(in heap; "{number} {text}")?;
     Ok(Some(record))
-}
-
-// Whether the words of a line are none, or begin a comment.
-fn is_skipped(words: &[&[u8]]) -> bool
-    ensures { result ≡ is_skipped (texts words.now) }
-{
-    if words.is_empty() {
-        return true;
-    }
-    let first = words[0];
-    !first.is_empty() && first[0] == b'#'
 }
 
 // Makes the call that words say, and tells its answer.

@@ -18,7 +18,7 @@ pub use call::{Call, Kind, RingCall};
 pub use cells::{cell_text, cells_text, elements};
 pub use element::Element;
 pub use grammar::{parse, ring_kind};
-pub use line::step;
+pub use line::{is_skipped, step};
 pub use session::Session;
 pub use text::{answer_text, joined, record};
 

@@ -31,7 +31,7 @@ pub fn step(
 }
 
 // Whether the words of a line are none, or begin a comment.
-fn is_skipped(words: &[&[u8]]) -> bool
+pub fn is_skipped(words: &[&[u8]]) -> bool
     ensures { result ≡ is_skipped (texts words.now) }
 {
     if words.is_empty() {
