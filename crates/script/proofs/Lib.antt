@@ -1,6 +1,5 @@
 pub mod Equal
 pub mod Making
 pub mod Numbering
-pub mod Parsing
 pub mod Skipping
 pub mod Writing

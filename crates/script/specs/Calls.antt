@@ -91,6 +91,10 @@ module _ (arguments : List (List ℕ)) where
   abbrev pub bool_says : Option RingSaid
   bool_says = with 1 arguments (and (truth_of (at arguments 0)) (λ set. Some (from_bool set)))
 
+  -- a call that has nothing but its kind
+  abbrev pub bare_says : RingSaid → Option RingSaid
+  bare_says call = with 0 arguments (Some call)
+
   -- two elements, by their numbers
   abbrev pub operands_say : Option (List ℕ × List ℕ)
   operands_say = with 2 arguments (and (list_of (at arguments 0)) (λ a. and (list_of (at arguments 1)) (λ b. Some (a, b))))

@@ -1,153 +1,117 @@
 // What the words of a line say of a call.
-ghost use Rattle.std.specs.Prelude.{◌≡◌, IfOk, Some};
-ghost use Rattle.std.specs.Option.{option_map};
-ghost use Rattle.script.specs.Calls.{said, ring_said, kind_of, pair_said, operands_say, new_says, minimum_says, show_says, height_says, encode_layout_says, encode_says, read_says, bool_says, operation_says, layout_says, ring_says, kind_says, meaning};
-ghost use Rattle.words.specs.Arguments.{with};
+ghost use Rattle.std.specs.Prelude.{◌≡◌};
+ghost use Rattle.script.specs.Calls.{said, ring_said, kind_of, pair_said, operands_say, new_says, minimum_says, show_says, height_says, encode_layout_says, encode_says, read_says, bool_says, operation_says, layout_says, ring_says, kind_says, meaning, bare_says};
 ghost use Rattle.words.specs.Cuts.{texts};
+ghost use Rattle.words.specs.Said.{Says};
 
 use crate::call::{Call, Kind, RingCall};
-use std::alloc::{AllocError, Global};
-use words::{bytes, list, name, number, says, size, truth};
+use std::alloc::Global;
+use words::{Unsaid, bytes, list, name, number, says, size, truth};
 
 // The call that the words of a line say, if they say one.
-pub fn parse(heap: Global, words: &[&[u8]]) -> Result<Option<Call>, AllocError>
-    ensures { IfOk result (λ o. option_map said o ≡ meaning (texts words.now)) }
+pub fn parse(heap: Global, words: &[&[u8]]) -> Result<Call, Unsaid>
+    ensures { Says said (meaning (texts words.now)) result }
 {
-    if words.is_empty() {
-        return Ok(None);
-    }
-    let arguments = &words[1..];
-    match layout_call(heap, words[0], arguments)? {
-        Some(call) => Ok(Some(call)),
-        None => kind_call(heap, words[0], arguments),
+    let [name, arguments @ ..] = words else {
+        return Err(Unsaid::Nothing);
+    };
+    match layout_call(heap, name, arguments) {
+        Err(Unsaid::Nothing) => kind_call(heap, name, arguments),
+        told => told,
     }
 }
 
-fn layout_call(heap: Global, name: &[u8], arguments: &[&[u8]]) -> Result<Option<Call>, AllocError>
-    ensures { IfOk result (λ o. option_map said o ≡ layout_says name.now (texts arguments.now)) }
+fn layout_call(heap: Global, name: &[u8], arguments: &[&[u8]]) -> Result<Call, Unsaid>
+    ensures { Says said (layout_says name.now (texts arguments.now)) result }
 {
     if says(name, "new") {
-        return new_call(heap, arguments);
+        new_call(heap, arguments)
+    } else if says(name, "with_min_dense_variables") {
+        minimum_call(heap, arguments)
+    } else if says(name, "show") {
+        show_call(heap, arguments)
+    } else if says(name, "column_height") {
+        height_call(heap, arguments)
+    } else if says(name, "encode_layout") {
+        encode_layout_call(heap, arguments)
+    } else {
+        Err(Unsaid::Nothing)
     }
-    if says(name, "with_min_dense_variables") {
-        return minimum_call(heap, arguments);
-    }
-    if says(name, "show") {
-        return show_call(heap, arguments);
-    }
-    if says(name, "column_height") {
-        return height_call(heap, arguments);
-    }
-    if says(name, "encode_layout") {
-        return encode_layout_call(heap, arguments);
-    }
-    Ok(None)
 }
 
-fn new_call(heap: Global, arguments: &[&[u8]]) -> Result<Option<Call>, AllocError>
-    ensures { IfOk result (λ o. option_map said o ≡ new_says (texts arguments.now)) }
+fn new_call(heap: Global, arguments: &[&[u8]]) -> Result<Call, Unsaid>
+    ensures { Says said (new_says (texts arguments.now)) result }
 {
-    if arguments.len() != 3 {
-        return Ok(None);
-    }
-    let Some(name) = name(heap, arguments[0])? else {
-        return Ok(None);
+    let [slot, rows, heights] = arguments else {
+        return Err(Unsaid::Nothing);
     };
-    let Some(row_variables) = number(arguments[1]) else {
-        return Ok(None);
-    };
-    let Some(heights) = list(heap, arguments[2])? else {
-        return Ok(None);
-    };
-    Ok(Some(Call::New {
-        name,
-        row_variables,
-        heights,
-    }))
+    Ok(Call::New {
+        name: name(heap, slot)?,
+        row_variables: number(rows).ok_or(Unsaid::Nothing)?,
+        heights: list(heap, heights)?,
+    })
 }
 
-fn minimum_call(heap: Global, arguments: &[&[u8]]) -> Result<Option<Call>, AllocError>
-    ensures { IfOk result (λ o. option_map said o ≡ minimum_says (texts arguments.now)) }
+fn minimum_call(heap: Global, arguments: &[&[u8]]) -> Result<Call, Unsaid>
+    ensures { Says said (minimum_says (texts arguments.now)) result }
 {
-    if arguments.len() != 4 {
-        return Ok(None);
-    }
-    let Some(name) = name(heap, arguments[0])? else {
-        return Ok(None);
+    let [slot, rows, heights, minimum] = arguments else {
+        return Err(Unsaid::Nothing);
     };
-    let Some(row_variables) = number(arguments[1]) else {
-        return Ok(None);
-    };
-    let Some(heights) = list(heap, arguments[2])? else {
-        return Ok(None);
-    };
-    let Some(minimum) = number(arguments[3]) else {
-        return Ok(None);
-    };
-    Ok(Some(Call::WithMinDenseVariables {
-        name,
-        row_variables,
-        heights,
-        minimum,
-    }))
+    Ok(Call::WithMinDenseVariables {
+        name: name(heap, slot)?,
+        row_variables: number(rows).ok_or(Unsaid::Nothing)?,
+        heights: list(heap, heights)?,
+        minimum: number(minimum).ok_or(Unsaid::Nothing)?,
+    })
 }
 
-fn show_call(heap: Global, arguments: &[&[u8]]) -> Result<Option<Call>, AllocError>
-    ensures { IfOk result (λ o. option_map said o ≡ show_says (texts arguments.now)) }
+fn show_call(heap: Global, arguments: &[&[u8]]) -> Result<Call, Unsaid>
+    ensures { Says said (show_says (texts arguments.now)) result }
 {
-    if arguments.len() != 1 {
-        return Ok(None);
-    }
-    let Some(name) = name(heap, arguments[0])? else {
-        return Ok(None);
+    let [slot] = arguments else {
+        return Err(Unsaid::Nothing);
     };
-    Ok(Some(Call::Show { name }))
+    Ok(Call::Show {
+        name: name(heap, slot)?,
+    })
 }
 
-fn height_call(heap: Global, arguments: &[&[u8]]) -> Result<Option<Call>, AllocError>
-    ensures { IfOk result (λ o. option_map said o ≡ height_says (texts arguments.now)) }
+fn height_call(heap: Global, arguments: &[&[u8]]) -> Result<Call, Unsaid>
+    ensures { Says said (height_says (texts arguments.now)) result }
 {
-    if arguments.len() != 2 {
-        return Ok(None);
-    }
-    let Some(name) = name(heap, arguments[0])? else {
-        return Ok(None);
+    let [slot, column] = arguments else {
+        return Err(Unsaid::Nothing);
     };
-    let Some(column) = number(arguments[1]) else {
-        return Ok(None);
-    };
-    Ok(Some(Call::ColumnHeight { name, column }))
+    Ok(Call::ColumnHeight {
+        name: name(heap, slot)?,
+        column: number(column).ok_or(Unsaid::Nothing)?,
+    })
 }
 
-fn encode_layout_call(heap: Global, arguments: &[&[u8]]) -> Result<Option<Call>, AllocError>
-    ensures { IfOk result (λ o. option_map said o ≡ encode_layout_says (texts arguments.now)) }
+fn encode_layout_call(heap: Global, arguments: &[&[u8]]) -> Result<Call, Unsaid>
+    ensures { Says said (encode_layout_says (texts arguments.now)) result }
 {
-    if arguments.len() != 2 {
-        return Ok(None);
-    }
-    let Some(name) = name(heap, arguments[0])? else {
-        return Ok(None);
+    let [slot, room] = arguments else {
+        return Err(Unsaid::Nothing);
     };
-    let Some(room) = size(arguments[1]) else {
-        return Ok(None);
-    };
-    Ok(Some(Call::EncodeLayout { name, room }))
+    Ok(Call::EncodeLayout {
+        name: name(heap, slot)?,
+        room: size(room).ok_or(Unsaid::Nothing)?,
+    })
 }
 
 // A call at a ring kind, which stands first.
-fn kind_call(heap: Global, name: &[u8], arguments: &[&[u8]]) -> Result<Option<Call>, AllocError>
-    ensures { IfOk result (λ o. option_map said o ≡ kind_says name.now (texts arguments.now)) }
+fn kind_call(heap: Global, name: &[u8], arguments: &[&[u8]]) -> Result<Call, Unsaid>
+    ensures { Says said (kind_says name.now (texts arguments.now)) result }
 {
-    if arguments.is_empty() {
-        return Ok(None);
-    }
-    let Some(kind) = ring_kind(arguments[0]) else {
-        return Ok(None);
+    let [kind, arguments @ ..] = arguments else {
+        return Err(Unsaid::Nothing);
     };
-    match ring_call(heap, name, &arguments[1..])? {
-        Some(call) => Ok(Some(Call::Ring { kind, call })),
-        None => Ok(None),
-    }
+    Ok(Call::Ring {
+        kind: ring_kind(kind).ok_or(Unsaid::Nothing)?,
+        call: ring_call(heap, name, arguments)?,
+    })
 }
 
 // The ring kind that a word names.
@@ -175,120 +139,95 @@ pub fn ring_kind(word: &[u8]) -> Option<Kind>
     None
 }
 
-fn ring_call(heap: Global, name: &[u8], arguments: &[&[u8]]) -> Result<Option<RingCall>, AllocError>
-    ensures { IfOk result (λ o. option_map ring_said o ≡ ring_says name.now (texts arguments.now)) }
+fn ring_call(heap: Global, name: &[u8], arguments: &[&[u8]]) -> Result<RingCall, Unsaid>
+    ensures { Says ring_said (ring_says name.now (texts arguments.now)) result }
 {
     if says(name, "byte_length") {
-        return Ok(bare_call(arguments, RingCall::ByteLength));
+        bare_call(arguments, RingCall::ByteLength)
+    } else if says(name, "zero") {
+        bare_call(arguments, RingCall::Zero)
+    } else if says(name, "one") {
+        bare_call(arguments, RingCall::One)
+    } else if says(name, "encode") {
+        encode_call(heap, arguments)
+    } else if says(name, "read") {
+        read_call(heap, arguments)
+    } else if says(name, "from_bool") {
+        bool_call(arguments)
+    } else {
+        operation_call(heap, name, arguments)
     }
-    if says(name, "zero") {
-        return Ok(bare_call(arguments, RingCall::Zero));
-    }
-    if says(name, "one") {
-        return Ok(bare_call(arguments, RingCall::One));
-    }
-    if says(name, "encode") {
-        return encode_call(heap, arguments);
-    }
-    if says(name, "read") {
-        return read_call(heap, arguments);
-    }
-    if says(name, "from_bool") {
-        return Ok(bool_call(arguments));
-    }
-    operation_call(heap, name, arguments)
 }
 
 // A call that has nothing but its kind.
-fn bare_call(arguments: &[&[u8]], call: RingCall) -> Option<RingCall>
-    ensures { option_map ring_said result ≡ with 0 (texts arguments.now) (Some (ring_said call)) }
+fn bare_call(arguments: &[&[u8]], call: RingCall) -> Result<RingCall, Unsaid>
+    ensures { Says ring_said (bare_says (texts arguments.now) (ring_said call)) result }
 {
-    if arguments.len() != 0 {
-        return None;
+    if arguments.is_empty() {
+        Ok(call)
+    } else {
+        Err(Unsaid::Nothing)
     }
-    Some(call)
 }
 
-fn encode_call(heap: Global, arguments: &[&[u8]]) -> Result<Option<RingCall>, AllocError>
-    ensures { IfOk result (λ o. option_map ring_said o ≡ encode_says (texts arguments.now)) }
+fn encode_call(heap: Global, arguments: &[&[u8]]) -> Result<RingCall, Unsaid>
+    ensures { Says ring_said (encode_says (texts arguments.now)) result }
 {
-    if arguments.len() != 2 {
-        return Ok(None);
-    }
-    let Some(element) = list(heap, arguments[0])? else {
-        return Ok(None);
+    let [element, room] = arguments else {
+        return Err(Unsaid::Nothing);
     };
-    let Some(room) = size(arguments[1]) else {
-        return Ok(None);
-    };
-    Ok(Some(RingCall::Encode { element, room }))
+    Ok(RingCall::Encode {
+        element: list(heap, element)?,
+        room: size(room).ok_or(Unsaid::Nothing)?,
+    })
 }
 
-fn read_call(heap: Global, arguments: &[&[u8]]) -> Result<Option<RingCall>, AllocError>
-    ensures { IfOk result (λ o. option_map ring_said o ≡ read_says (texts arguments.now)) }
+fn read_call(heap: Global, arguments: &[&[u8]]) -> Result<RingCall, Unsaid>
+    ensures { Says ring_said (read_says (texts arguments.now)) result }
 {
-    if arguments.len() != 1 {
-        return Ok(None);
-    }
-    let Some(bytes) = bytes(heap, arguments[0])? else {
-        return Ok(None);
+    let [word] = arguments else {
+        return Err(Unsaid::Nothing);
     };
-    Ok(Some(RingCall::Read { bytes }))
+    Ok(RingCall::Read {
+        bytes: bytes(heap, word)?,
+    })
 }
 
-fn bool_call(arguments: &[&[u8]]) -> Option<RingCall>
-    ensures { option_map ring_said result ≡ bool_says (texts arguments.now) }
+fn bool_call(arguments: &[&[u8]]) -> Result<RingCall, Unsaid>
+    ensures { Says ring_said (bool_says (texts arguments.now)) result }
 {
-    if arguments.len() != 1 {
-        return None;
-    }
-    let Some(set) = truth(arguments[0]) else {
-        return None;
+    let [set] = arguments else {
+        return Err(Unsaid::Nothing);
     };
-    Some(RingCall::FromBool { set })
+    Ok(RingCall::FromBool {
+        set: truth(set).ok_or(Unsaid::Nothing)?,
+    })
 }
 
 // A call on two elements.
-fn operation_call(
-    heap: Global,
-    name: &[u8],
-    arguments: &[&[u8]],
-) -> Result<Option<RingCall>, AllocError>
-    ensures { IfOk result (λ o. option_map ring_said o ≡ operation_says name.now (texts arguments.now)) }
+fn operation_call(heap: Global, name: &[u8], arguments: &[&[u8]]) -> Result<RingCall, Unsaid>
+    ensures { Says ring_said (operation_says name.now (texts arguments.now)) result }
 {
-    let Some((a, b)) = operands(heap, arguments)? else {
-        return Ok(None);
-    };
+    let (a, b) = operands(heap, arguments)?;
     if says(name, "plus") {
-        return Ok(Some(RingCall::Plus { a, b }));
+        Ok(RingCall::Plus { a, b })
+    } else if says(name, "minus") {
+        Ok(RingCall::Minus { a, b })
+    } else if says(name, "times") {
+        Ok(RingCall::Times { a, b })
+    } else if says(name, "equal") {
+        Ok(RingCall::Equal { a, b })
+    } else {
+        Err(Unsaid::Nothing)
     }
-    if says(name, "minus") {
-        return Ok(Some(RingCall::Minus { a, b }));
-    }
-    if says(name, "times") {
-        return Ok(Some(RingCall::Times { a, b }));
-    }
-    if says(name, "equal") {
-        return Ok(Some(RingCall::Equal { a, b }));
-    }
-    Ok(None)
 }
 
 // The numbers of two elements.
-fn operands(
-    heap: Global,
-    arguments: &[&[u8]],
-) -> Result<Option<(Vec<usize>, Vec<usize>)>, AllocError>
-    ensures { IfOk result (λ o. option_map pair_said o ≡ operands_say (texts arguments.now)) }
+fn operands(heap: Global, arguments: &[&[u8]]) -> Result<(Vec<usize>, Vec<usize>), Unsaid>
+    ensures { Says pair_said (operands_say (texts arguments.now)) result }
 {
-    if arguments.len() != 2 {
-        return Ok(None);
-    }
-    let Some(a) = list(heap, arguments[0])? else {
-        return Ok(None);
+    let [a, b] = arguments else {
+        return Err(Unsaid::Nothing);
     };
-    let Some(b) = list(heap, arguments[1])? else {
-        return Ok(None);
-    };
-    Ok(Some((a, b)))
+    Ok((list(heap, a)?, list(heap, b)?))
 }

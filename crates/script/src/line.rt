@@ -11,7 +11,7 @@ use crate::grammar::parse;
 use crate::session::Session;
 use crate::text::record;
 use std::alloc::{AllocError, Global};
-use words::words;
+use words::{Unsaid, words};
 
 // Makes the call of a line, and gives the line to print; none where the line is blank or a comment.
 pub fn step(
@@ -34,11 +34,10 @@ pub fn step(
 pub fn is_skipped(words: &[&[u8]]) -> bool
     ensures { result ≡ is_skipped (texts words.now) }
 {
-    if words.is_empty() {
-        return true;
+    match words {
+        [] => true,
+        [first, ..] => first.first() == Some(&b'#'),
     }
-    let first = words[0];
-    !first.is_empty() && first[0] == b'#'
 }
 
 // Makes the call that words say, and gives its record.
@@ -51,9 +50,10 @@ fn answered(
     ensures printed { IfOk result (λ s. Recorded (slot session.old) number (meaning (texts words.now)) (string_bytes s)) }
     ensures slots { OnOk result ((other : List ℕ) → slot session.new other ≡ slots_by (slot session.old) (meaning (texts words.now)) other) }
 {
-    let answer = match parse(heap, words)? {
-        Some(call) => session.make(heap, call)?,
-        None => Answer::NoCall,
+    let answer = match parse(heap, words) {
+        Ok(call) => session.make(heap, call)?,
+        Err(Unsaid::Nothing) => Answer::NoCall,
+        Err(Unsaid::NoMemory(fault)) => return Err(fault),
     };
     record(heap, number, &answer)
 }

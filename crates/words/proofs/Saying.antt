@@ -1,20 +1,27 @@
 -- What single words say. Assumes nothing.
-use Rattle.std.proofs.Common.{◌≡◌, ℕ, suc, ◌+◌, ◌-◌, ◌*◌, ◌/◌, ◌%◌, ◌^◌, ◌<◌, ◌≤◌, Bool, true, false, not, eqb, ◌⊎◌, List, [], ◌∷◌, ◌++◌, length, get_or, take, drop, replicate, IfSome, Some, None, Ok, Err, codes, IsUtf8, Option, Result, sym, refl, ap, ◌∙◌, ⊎_elim, append_assoc, append-nil, arith, length-append, Bor}
+use Rattle.std.specs.Bool.{⊤}
+use Rattle.std.proofs.Common.{MatchOption, MatchResult, subst, ◌≡◌, ℕ, suc, ◌+◌, ◌-◌, ◌*◌, ◌/◌, ◌%◌, ◌^◌, ◌<◌, ◌≤◌, Bool, true, false, not, eqb, ◌⊎◌, List, [], ◌∷◌, ◌++◌, length, get_or, take, drop, replicate, IfSome, Some, None, Ok, Err, codes, IsUtf8, Option, Result, sym, refl, ap, ◌∙◌, ⊎_elim, append_assoc, append-nil, arith, rules, length-append, length-take, length-drop, Bor}
+use Rattle.std.specs.Option.{option_map, ok_or}
 use Rattle.std.specs.Str.Parse.{digits_value, ParsesUnsigned}
 use Rattle.std.specs.List.{AllByRecursion as All}
 use Rattle.std.proofs.ByRecursion.{IsAscii-from_all}
+use Rattle.std.proofs.lemmas.Option.{none-some}
 use Rattle.std.proofs.lemmas.Bool.Decides.{nat_tests}
 use Rattle.std.specs.Result.{result_ok, OkIff}
 use Rattle.std.specs.Str.{all_ascii_digits, bytes_eq}
 use Rattle.std.proofs.lemmas.Fmt.{IsAscii-from_digits}
-use Rattle.std.proofs.lemmas.List.{take_rest, replicate_more, at_drop_more, at_drop_all, drop_more, get_or-map, length-map}
+use Rattle.std.proofs.lemmas.List.{nil_from_length, take_all, take_rest, replicate_more, at_drop_more, at_drop_all, drop_more, get_or-map, length-map}
 use Rattle.std.proofs.lemmas.Str.Parse.{IsNumeralModel, numerals_by_value, tells_all_ascii_digits, parse_plain}
 use Rattle.std.proofs.lemmas.Bool.{and_from, and_parts, cases_Bool, ltb-true, lt-ltb, le-ltb, le-leb, lt-leb, eqb-false, ne_eqb, not_from_false, true≢false}
 use Rattle.std.proofs.lemmas.Str.{IsUtf8-from_ascii}
-use Rattle.words.specs.declared.split.Mark.TheVariants.{Star, Comma}
+use Rattle.words.specs.declared.split.Mark.{Mark}
+use Rattle.words.specs.declared.split.Mark.TheVariants.{Star}
+use Rattle.words.specs.declared.unsaid.Unsaid.{Unsaid}
+use Rattle.words.specs.declared.unsaid.Unsaid.TheVariants.{Nothing, NoMemory}
+use Rattle.words.specs.Said.{Says}
 use Rattle.words.specs.Cuts.{ahead, pieces, texts}
 use Rattle.words.proofs.Cutting.{nothing}
-use Rattle.words.specs.Words.{max_cells, is_number, number_of, provided, times, item_of, after, items_of, short, list_of, before, byte_of, hex_of, bytes_of, is_name_byte, all_name_bytes, is_name}
+use Rattle.words.specs.Words.{max_cells, is_number, number_of, provided, repeated, cut_by, after, items_by, short, list_by, before, byte_of, hex_of, bytes_of, is_name_byte, all_name_bytes, is_name, name_of}
 
 digits : IsNumeralModel (λ ds. all_ascii_digits ds ≡ true) (digits_value 10)
 digits = numerals_by_value _ tells_all_ascii_digits
@@ -62,6 +69,16 @@ no_sign (b ∷ bs) e = number_none (b ∷ bs) (λ h. true≢false (sym h.0 ∙ a
 pub no_text : (w : List ℕ) → (IsUtf8 w → ⊥) → None ≡ number_of w
 no_text w never = number_none w (λ h. never (IsUtf8-from_ascii w (IsAscii-from_digits w (digits.to w h.0))))
 
+-- the text of bytes, where they are one
+module _ {E : Type 0} (w : List ℕ) where
+  pub text_none : (V : E → Type 0) (r : Result (Bor (List ℕ)) E) → MatchResult r (λ s. (s.now ≡ w) × IsUtf8 w) (λ e. (IsUtf8 w → ⊥) × V e) → None ≡ result_ok r → IsUtf8 w → ⊥
+  text_none V (Ok s) h e = absurd (none-some s e)
+  text_none V (Err x) h e = h.0
+
+  pub text_some : (V : E → Type 0) (r : Result (Bor (List ℕ)) E) (s : Bor (List ℕ)) → MatchResult r (λ s. (s.now ≡ w) × IsUtf8 w) (λ e. (IsUtf8 w → ⊥) × V e) → Some s ≡ result_ok r → s.now ≡ w
+  text_some V (Ok t) s h e = subst (λ o. MatchOption o ⊤ (λ x. x.now ≡ w)) (sym e) h.0
+  text_some V (Err x) s h e = absurd (none-some s (sym e))
+
 -- `parse` reads what a script's number says
 pub parsed : {E : Type 0} (w : List ℕ) (r : Result ℕ E) → ParsesUnsigned 64 10 w r → (length w ≡ 0 → ⊥) → (get_or w 0 0 ≡ 43 → ⊥) → result_ok r ≡ number_of w
 parsed w r h some plain = told r (parse_plain digits 64 w r h plain)
@@ -71,84 +88,78 @@ parsed w r h some plain = told r (parse_plain digits 64 w r h plain)
     told (Err e) never = number_none w never
 
 -- an item with no star, and one with a star
-pub item_whole : (w : List ℕ) (a : Option ℕ) → length w ≡ ahead Star w → a ≡ number_of w → times a (Some 1) ≡ item_of w
-unfolding item_of
-item_whole w a all e = rw (le-ltb (ahead Star w) (length w) (omega (arith, all))) (ap (λ o. times o (Some 1)) e)
+pub item_whole : (w : List ℕ) → length w ≡ ahead Star w → Some (w, 1) ≡ cut_by w
+unfolding cut_by
+item_whole w all = rw (le-ltb (ahead Star w) (length w) (omega (arith, all)))
 
-pub item_parts : (w : List ℕ) (n : ℕ) (a b : Option ℕ) → n ≡ ahead Star w → n < length w → a ≡ number_of (take (n - 0) w) → b ≡ number_of (take (length w - (n + 1)) (drop (n + 1) w)) → times a b ≡ item_of w
-unfolding item_of
-item_parts w n a b e less ea eb =
-    let front : n - 0 ≡ ahead Star w = omega (arith, e) in
-    let first = ea ∙ ap (λ m. number_of (take m w)) front in
-    let second = eb ∙ ap number_of (take_rest w (n + 1)) ∙ ap (λ m. number_of (drop (m + 1) w)) e in
-    rw (lt-ltb (ahead Star w) (length w) (omega (arith, e, less))) (λ t. times (first t) (second t))
-
--- a number once more
-pub repeated_more : (now was start : List ℕ) (n x : ℕ) → now ≡ was ++ x ∷ [] → was ≡ start ++ replicate n x → now ≡ start ++ replicate (n + 1) x
-repeated_more now was start n x pushed sofar =
-    pushed ∙ ap (λ l. l ++ x ∷ []) sofar ∙ append_assoc start (replicate n x) (x ∷ []) ∙ ap (λ l. start ++ l) (replicate_more n x)
+pub item_parts : (w : List ℕ) (n : ℕ) (a : Option ℕ) → n ≡ ahead Star w → n < length w → a ≡ number_of (take (length w - (n + 1)) (drop (n + 1) w)) → option_map (λ k. (take n w, k)) a ≡ cut_by w
+unfolding cut_by
+item_parts w n a e less ea =
+    let second = ea ∙ ap number_of (take_rest w (n + 1)) ∙ ap (λ m. number_of (drop (m + 1) w)) e in
+    rw (lt-ltb (ahead Star w) (length w) (omega (arith, e, less))) (λ t. option_map (λ k. (take (e t) w, k)) (second t))
 
 -- lists
-after-after : (done xs : List ℕ) (o : Option (List ℕ)) → after (Some done) (after (Some xs) o) ≡ after (Some (done ++ xs)) o
-after-after done xs None = refl
-after-after done xs (Some ys) = ap Some (sym (append_assoc done xs ys))
+module _ {A : Type 0} where
+  pub grown : (now done : List A) (n k : ℕ) (x : A) → length done ≡ n → now ≡ take (n + k) done ++ replicate (n + k - n) x → now ≡ done ++ replicate k x
+  grown now done n k x e at =
+      let more : n + k - n ≡ k = omega arith in
+      at ∙ (λ t. take_all (n + k) done (omega (arith, e)) t ++ replicate (more t) x)
 
-module _ (word : List ℕ) (items : List (Bor (List ℕ))) (cut : texts items ≡ pieces Comma word) (i : ℕ) (lt : i < length items) (done : List ℕ) (sofar : after (Some done) (items_of (drop i (texts items))) ≡ items_of (texts items)) where
-  abbrev item : List ℕ
-  item = (get_or items i nothing).now
+  after-after : (done xs : List A) (o : Option (List A)) → after (Some done) (after (Some xs) o) ≡ after (Some (done ++ xs)) o
+  after-after done xs None = refl
+  after-after done xs (Some ys) = ap Some (sym (append_assoc done xs ys))
 
-  next : items_of (drop i (texts items)) ≡ after (item_of item) (items_of (drop (i + 1) (texts items)))
-  next =
-      let within : i < length (texts items) = omega (arith, length-map items (λ (q : Bor (List ℕ)). q.now)) in
-      at_drop_more items_of (texts items) i [] within
-      ∙ ap (λ w. after (item_of w) (items_of (drop (i + 1) (texts items)))) (get_or-map (λ (q : Bor (List ℕ)). q.now) items i nothing [] lt)
+module _ {A : Type 0} (read : List ℕ → Option (List A)) (mark : Mark) (most : ℕ) where
+  abbrev all : List (List ℕ) → Option (List A)
+  all ws = items_by read ws
 
-  pub items_more : (xs : List ℕ) → Some xs ≡ item_of item → after (Some (done ++ xs)) (items_of (drop (i + 1) (texts items))) ≡ items_of (texts items)
-  items_more xs e = sym (after-after done xs _) ∙ ap (λ o. after (Some done) (after o (items_of (drop (i + 1) (texts items))))) e ∙ ap (after (Some done)) (sym next) ∙ sofar
+  module _ (word : List ℕ) (items : List (Bor (List ℕ))) (cut : texts items ≡ pieces mark word) (i : ℕ) (lt : i < length items) (done : List A) (sofar : after (Some done) (all (drop i (texts items))) ≡ all (texts items)) where
+    abbrev item : List ℕ
+    item = (get_or items i nothing).now
 
-  pub no_item : None ≡ item_of item → bytes_eq word (codes "-") ≡ false → None ≡ list_of word
-  unfolding list_of
-  no_item e dash =
-      let none : None ≡ items_of (texts items) = ap (λ o. after (Some done) (after o (items_of (drop (i + 1) (texts items))))) e ∙ ap (after (Some done)) (sym next) ∙ sofar in
-      rw dash (ap short (none ∙ ap items_of cut))
+    next : all (drop i (texts items)) ≡ after (read item) (all (drop (i + 1) (texts items)))
+    next =
+        let within : i < length (texts items) = omega (arith, length-map items (λ (q : Bor (List ℕ)). q.now)) in
+        at_drop_more all (texts items) i [] within
+        ∙ ap (λ w. after (read w) (all (drop (i + 1) (texts items)))) (get_or-map (λ (q : Bor (List ℕ)). q.now) items i nothing [] lt)
 
-  pub too_many : (xs : List ℕ) → Some xs ≡ item_of item → max_cells < length done + length xs → bytes_eq word (codes "-") ≡ false → None ≡ list_of word
-  unfolding list_of
-  too_many xs e many dash =
-      rw dash (long (items_of (drop (i + 1) (texts items))) ∙ ap short (items_more xs e ∙ ap items_of cut))
-    where
-      long : (o : Option (List ℕ)) → None ≡ short (after (Some (done ++ xs)) o)
-      long None = refl
-      long (Some ys) = sym (ap (λ b. provided b ((done ++ xs) ++ ys)) (lt-leb (length ((done ++ xs) ++ ys)) max_cells (omega (arith, length-append done xs, length-append (done ++ xs) ys, many))))
+    pub items_more : (xs : List A) → Some xs ≡ read item → after (Some (done ++ xs)) (all (drop (i + 1) (texts items))) ≡ all (texts items)
+    items_more xs e = sym (after-after done xs _) ∙ ap (λ o. after (Some done) (after o (all (drop (i + 1) (texts items))))) e ∙ ap (after (Some done)) (sym next) ∙ sofar
 
-pub dash_list : (word : List ℕ) → bytes_eq word (codes "-") ≡ true → Some [] ≡ list_of word
-unfolding list_of
-dash_list word dash = rw dash
+    pub no_item : None ≡ read item → bytes_eq word (codes "-") ≡ false → None ≡ list_by read mark most word
+    unfolding list_by
+    no_item e dash =
+        let none : None ≡ all (texts items) = ap (λ o. after (Some done) (after o (all (drop (i + 1) (texts items))))) e ∙ ap (after (Some done)) (sym next) ∙ sofar in
+        rw dash (ap (short most) (none ∙ ap all cut))
 
-pub whole_list : (word : List ℕ) (items : List (Bor (List ℕ))) (done : List ℕ) (i : ℕ) → texts items ≡ pieces Comma word → bytes_eq word (codes "-") ≡ false → after (Some done) (items_of (drop i (texts items))) ≡ items_of (texts items) → length items ≤ i → length done ≤ max_cells → Some done ≡ list_of word
-unfolding list_of
-whole_list word items done i cut dash sofar all few =
-    let end = at_drop_all items_of (texts items) i (omega (arith, all, length-map items (λ (q : Bor (List ℕ)). q.now))) in
-    let told : Some done ≡ items_of (texts items) = ap Some (sym (append-nil done)) ∙ ap (after (Some done)) (sym end) ∙ sofar in
-    rw dash (sym (ap (λ b. provided b done) (le-leb (length done) max_cells few)) ∙ ap short (told ∙ ap items_of cut))
+    pub no_item_says : {T : Type 0} (view : T → List A) (e : Unsaid) → Says (repeated {A = A}) (read item) (Err e) → bytes_eq word (codes "-") ≡ false → Says view (list_by read mark most word) (Err e)
+    no_item_says view Nothing h dash = no_item h dash
+    no_item_says view (NoMemory e) h dash = tt
+
+    pub too_many : (xs : List A) → Some xs ≡ read item → most < length done + length xs → bytes_eq word (codes "-") ≡ false → None ≡ list_by read mark most word
+    unfolding list_by
+    too_many xs e many dash =
+        rw dash (long (all (drop (i + 1) (texts items))) ∙ ap (short most) (items_more xs e ∙ ap all cut))
+      where
+        long : (o : Option (List A)) → None ≡ short most (after (Some (done ++ xs)) o)
+        long None = refl
+        long (Some ys) = sym (ap (λ b. provided b ((done ++ xs) ++ ys)) (lt-leb (length ((done ++ xs) ++ ys)) most (omega (arith, length-append done xs, length-append (done ++ xs) ys, many))))
+
+  pub dash_list : (word : List ℕ) → bytes_eq word (codes "-") ≡ true → Some [] ≡ list_by read mark most word
+  unfolding list_by
+  dash_list word dash = rw dash
+
+  pub whole_list : (word : List ℕ) (items : List (Bor (List ℕ))) (done : List A) (i : ℕ) → texts items ≡ pieces mark word → bytes_eq word (codes "-") ≡ false → after (Some done) (all (drop i (texts items))) ≡ all (texts items) → length items ≤ i → length done ≤ most → Some done ≡ list_by read mark most word
+  unfolding list_by
+  whole_list word items done i cut dash sofar past few =
+      let end = at_drop_all all (texts items) i (omega (arith, past, length-map items (λ (q : Bor (List ℕ)). q.now))) in
+      let told : Some done ≡ all (texts items) = ap Some (sym (append-nil done)) ∙ ap (after (Some done)) (sym end) ∙ sofar in
+      rw dash (sym (ap (λ b. provided b done) (le-leb (length done) most few)) ∙ ap (short most) (told ∙ ap all cut))
 
 -- bytes
 after-before : (done : List ℕ) (b : ℕ) (o : Option (List ℕ)) → after (Some done) (before (Some b) o) ≡ after (Some (done ++ b ∷ [])) o
 after-before done b None = refl
 after-before done b (Some bs) = ap Some (sym (append_assoc done (b ∷ []) bs))
-
-hex_next : (w : List ℕ) (i : ℕ) → i + 1 < length w → hex_of (drop i w) ≡ before (byte_of (get_or w i 0) (get_or w (i + 1) 0)) (hex_of (drop (i + 2) w))
-hex_next w i lt =
-    let one = drop_more w i 0 (omega arith) in
-    let two = drop_more w (i + 1) 0 lt in
-    let back : i + 1 + 1 ≡ i + 2 = omega arith in
-    ap hex_of one
-    ∙ ap (λ l. hex_of (get_or w i 0 ∷ l)) two
-    ∙ ap (λ n. before (byte_of (get_or w i 0) (get_or w (i + 1) 0)) (hex_of (drop n w))) back
-
-before_none : (o : Option ℕ) → before o None ≡ None
-before_none None = refl
-before_none (Some b) = refl
 
 -- two digits a byte
 abbrev TwoEach : ℕ → Option (List ℕ) → Type 0
@@ -164,7 +175,7 @@ two_each [] = omega arith
 two_each (h ∷ []) = tt
 two_each (h ∷ l ∷ ds) = two_more (byte_of h l) (hex_of ds) (length ds) (two_each ds)
 
-ill_sized : (o : Option (List ℕ)) (n : ℕ) → TwoEach n o → (n % 2 ≡ 0 → ⊥) ⊎ (max_cells < n / 2) → None ≡ short o
+ill_sized : (o : Option (List ℕ)) (n : ℕ) → TwoEach n o → (n % 2 ≡ 0 → ⊥) ⊎ (max_cells < n / 2) → None ≡ short max_cells o
 ill_sized None n h bad = refl
 ill_sized (Some bs) n h bad =
     ⊎_elim
@@ -186,28 +197,40 @@ module _ (word : List ℕ) where
     unfolding bytes_of
     sized_bytes bad = rw (dash, some) (ill_sized (hex_of word) (length word) (two_each word) bad)
 
-    module _ (k : ℕ) (done : List ℕ) (sofar : after (Some done) (hex_of (drop (2 * k) word)) ≡ hex_of word) where
-      pub bytes_more : (b : ℕ) → 2 * k + 1 < length word → Some b ≡ byte_of (get_or word (2 * k) 0) (get_or word (2 * k + 1) 0) → after (Some (done ++ b ∷ [])) (hex_of (drop (2 * (k + 1)) word)) ≡ hex_of word
-      bytes_more b lt e =
-          let on : 2 * (k + 1) ≡ 2 * k + 2 = omega arith in
-          ap (λ n. after (Some (done ++ b ∷ [])) (hex_of (drop n word))) on
-          ∙ sym (after-before done b (hex_of (drop (2 * k + 2) word)))
-          ∙ ap (λ o. after (Some done) (before o (hex_of (drop (2 * k + 2) word)))) e
-          ∙ ap (after (Some done)) (sym (hex_next word (2 * k) lt))
-          ∙ sofar
-
-      pub no_byte : 2 * k + 1 < length word → None ≡ byte_of (get_or word (2 * k) 0) (get_or word (2 * k + 1) 0) → None ≡ bytes_of word
+    -- the digits that are left, and the bytes before them
+    module _ (done rest : List ℕ) (sofar : after (Some done) (hex_of rest) ≡ hex_of word) where
+      pub no_byte : 2 ≤ length rest → None ≡ byte_of (get_or rest 0 0) (get_or rest 1 0) → None ≡ bytes_of word
       unfolding bytes_of
-      no_byte lt e =
-          rw (dash, some) (ap short (ap (λ o. after (Some done) (before o (hex_of (drop (2 * k + 2) word)))) e ∙ ap (after (Some done)) (sym (hex_next word (2 * k) lt)) ∙ sofar))
+      no_byte two e = rw (dash, some) (ap (short max_cells) (none_left rest two e ∙ sofar))
+        where
+          none_left : (r : List ℕ) → 2 ≤ length r → None ≡ byte_of (get_or r 0 0) (get_or r 1 0) → None ≡ after (Some done) (hex_of r)
+          none_left [] h n = absurd (omega arith)
+          none_left (d ∷ []) h n = absurd (omega arith)
+          none_left (d ∷ l ∷ ds) h n = ap (λ o. after (Some done) (before o (hex_of ds))) n
 
-      pub whole_bytes : length word ≤ 2 * k → length done ≤ max_cells → Some done ≡ bytes_of word
+      pub whole_bytes : length rest < 2 → length rest + 2 * length done ≡ length word → length word % 2 ≡ 0 → length word / 2 ≤ max_cells → Some done ≡ bytes_of word
       unfolding bytes_of
-      whole_bytes all few =
-          let end = at_drop_all hex_of word (2 * k) all in
+      whole_bytes few all even fit =
+          let end : rest ≡ [] = nil_from_length rest (omega (arith, few, all, even)) in
           rw (dash, some)
-          (sym (ap (λ b. provided b done) (le-leb (length done) max_cells few))
-          ∙ ap short (ap Some (sym (append-nil done)) ∙ ap (after (Some done)) (sym end) ∙ sofar))
+          (sym (ap (λ b. provided b done) (le-leb (length done) max_cells (omega (arith, all, fit))))
+          ∙ ap (short max_cells) (ap Some (sym (append-nil done)) ∙ ap (λ l. after (Some done) (hex_of l)) (sym end) ∙ sofar))
+
+module _ (done rest now : List ℕ) (b : ℕ) (pushed : now ≡ done ++ b ∷ []) (two : 2 ≤ length rest) where
+  pub bytes_more : Some b ≡ byte_of (get_or rest 0 0) (get_or rest 1 0) → after (Some now) (hex_of (take (length rest - 2) (drop 2 rest))) ≡ after (Some done) (hex_of rest)
+  bytes_more e = ap (λ l. after (Some l) (hex_of (take (length rest - 2) (drop 2 rest)))) pushed ∙ next rest two e
+    where
+      next : (r : List ℕ) → 2 ≤ length r → Some b ≡ byte_of (get_or r 0 0) (get_or r 1 0) → after (Some (done ++ b ∷ [])) (hex_of (take (length r - 2) (drop 2 r))) ≡ after (Some done) (hex_of r)
+      next [] h t = absurd (omega arith)
+      next (d ∷ []) h t = absurd (omega arith)
+      next (d ∷ l ∷ ds) h t =
+          let all = take_all (length (d ∷ l ∷ ds) - 2) ds (omega arith) in
+          ap (λ m. after (Some (done ++ b ∷ [])) (hex_of m)) all
+          ∙ sym (after-before done b (hex_of ds))
+          ∙ ap (λ o. after (Some done) (before o (hex_of ds))) t
+
+  pub bytes_left : (n : ℕ) → length rest + 2 * length done ≡ n → length (take (length rest - 2) (drop 2 rest)) + 2 * length now ≡ n
+  bytes_left n e = omega (arith, e, two, ap length pushed, length-append done (b ∷ []), length-take (length rest - 2) (drop 2 rest), length-drop 2 rest)
 
 -- names
 name_byte : (b : ℕ) → is_name_byte b ≡ true → b < 128
@@ -219,3 +242,14 @@ name-bytes (b ∷ bs) h = let parts = and_parts _ _ h in (name_byte b parts.0, n
 
 pub name-text : (w : List ℕ) → is_name w ≡ true → IsUtf8 w
 name-text w h = IsUtf8-from_ascii w (IsAscii-from_all w (name-bytes w (and_parts _ _ h).1))
+
+pub no_name : (w : List ℕ) → (IsUtf8 w → ⊥) → None ≡ name_of w
+no_name w never = ⊎_elim (λ e. absurd (never (name-text w e))) (λ e. ap (λ b. provided b w) (sym e)) (cases_Bool (is_name w))
+
+pub refused : {A : Type 0} (o : Option A) (e : Unsaid) → Err e ≡ ok_or o Nothing → (o ≡ None) × (e ≡ Nothing)
+refused None e h = search rules
+refused (Some x) e h = search rules
+
+pub told : {A : Type 0} (o : Option A) (x : A) → Ok x ≡ ok_or o Nothing → Some x ≡ o
+told None x h = search rules
+told (Some y) x h = search rules

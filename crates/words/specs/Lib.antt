@@ -1,3 +1,4 @@
 pub mod Arguments
 pub mod Cuts
+pub mod Said
 pub mod Words

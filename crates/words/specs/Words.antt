@@ -2,8 +2,11 @@
 use Rattle.std.specs.Prelude.{ℕ, ◌+◌, ◌-◌, ◌*◌, ◌^◌, Bool, true, false, cond, not, ◌&&◌, ◌||◌, List, [], ◌∷◌, ◌++◌, length, take, drop, replicate, Some, None, codes, Option, ◌==◌, nat_le, nat_lt}
 use Rattle.std.specs.Str.Parse.{digits_value}
 use Rattle.std.specs.Char.{is_ascii_digit, is_ascii_alphabetic}
+use Rattle.std.specs.Option.{option_map}
 use Rattle.std.specs.Str.{all_ascii_digits, bytes_eq}
+use Rattle.words.specs.declared.split.Mark.{Mark}
 use Rattle.words.specs.declared.split.Mark.TheVariants.{Comma, Star}
+use Rattle.words.specs.Arguments.{and}
 use Rattle.words.specs.Cuts.{ahead, pieces}
 
 -- the most cells that a list or a buffer of a script has
@@ -30,37 +33,44 @@ within (Some n) = provided (nat_le n max_cells) n
 abbrev pub size_of : List ℕ → Option ℕ
 size_of w = within (number_of w)
 
--- a number and how often it comes, as a list
-abbrev pub repeated : ℕ × ℕ → List ℕ
+-- a value and how often it comes, as a list
+abbrev pub repeated : {A : Type 0} → A × ℕ → List A
 repeated run = replicate run.1 run.0
 
-abbrev pub times : Option ℕ → Option ℕ → Option (List ℕ)
-times None k = None
-times (Some n) None = None
-times (Some n) (Some k) = Some (replicate k n)
+-- an item: the part before its star, and how often it comes
+unfoldable pub cut_by : List ℕ → Option (List ℕ × ℕ)
+cut_by w = cond (nat_lt (ahead Star w) (length w)) (option_map (λ k. (take (ahead Star w) w, k)) (number_of (drop (ahead Star w + 1) w))) (Some (w, 1))
+
+-- what an item says by what a word says: `x` is x once, `x*k` is x k times
+abbrev pub run_by : {A : Type 0} → (List ℕ → Option A) → List ℕ → Option (List A)
+run_by read w = and (cut_by w) (λ p. option_map (λ x. replicate p.1 x) (read p.0))
 
 -- what an item of a list says: `n` is n once, `n*k` is n k times
-unfoldable pub item_of : List ℕ → Option (List ℕ)
-item_of w = cond (nat_lt (ahead Star w) (length w)) (times (number_of (take (ahead Star w) w)) (number_of (drop (ahead Star w + 1) w))) (times (number_of w) (Some 1))
+abbrev pub item_of : List ℕ → Option (List ℕ)
+item_of w = run_by number_of w
 
 -- one list after another, where both are told
-abbrev pub after : Option (List ℕ) → Option (List ℕ) → Option (List ℕ)
+abbrev pub after : {A : Type 0} → Option (List A) → Option (List A) → Option (List A)
 after None ys = None
 after (Some xs) None = None
 after (Some xs) (Some ys) = Some (xs ++ ys)
 
-abbrev pub items_of : List (List ℕ) → Option (List ℕ)
-items_of [] = Some []
-items_of (w ∷ ws) = after (item_of w) (items_of ws)
+abbrev pub items_by : {A : Type 0} → (List ℕ → Option (List A)) → List (List ℕ) → Option (List A)
+items_by item [] = Some []
+items_by item (w ∷ ws) = after (item w) (items_by item ws)
 
--- a list that is not too long
-abbrev pub short : Option (List ℕ) → Option (List ℕ)
-short None = None
-short (Some xs) = provided (nat_le (length xs) max_cells) xs
+-- a list that has at most so many
+abbrev pub short : {A : Type 0} → ℕ → Option (List A) → Option (List A)
+short most None = None
+short most (Some xs) = provided (nat_le (length xs) most) xs
+
+-- the list that a word says by what its items say: marks between the items, or a dash
+unfoldable pub list_by : {A : Type 0} → (List ℕ → Option (List A)) → Mark → ℕ → List ℕ → Option (List A)
+list_by item mark most w = cond (bytes_eq w (codes "-")) (Some []) (short most (items_by item (pieces mark w)))
 
 -- the list that a word says: items with commas between them, or a dash
-unfoldable pub list_of : List ℕ → Option (List ℕ)
-list_of w = cond (bytes_eq w (codes "-")) (Some []) (short (items_of (pieces Comma w)))
+abbrev pub list_of : List ℕ → Option (List ℕ)
+list_of w = list_by item_of Comma max_cells w
 
 -- the number of a hexadecimal digit
 abbrev pub digit_of : ℕ → Option ℕ
@@ -88,7 +98,7 @@ hex_of (h ∷ l ∷ ds) = before (byte_of h l) (hex_of ds)
 
 -- the bytes that a word says: two hexadecimal digits each, or a dash
 unfoldable pub bytes_of : List ℕ → Option (List ℕ)
-bytes_of w = cond (bytes_eq w (codes "-")) (Some []) (cond (length w == 0) None (short (hex_of w)))
+bytes_of w = cond (bytes_eq w (codes "-")) (Some []) (cond (length w == 0) None (short max_cells (hex_of w)))
 
 -- letters, digits, `_` and `-`
 abbrev pub is_name_byte : ℕ → Bool

@@ -1,11 +1,11 @@
 // What single words say: numbers, lists, bytes, names.
-ghost use Rattle.std.specs.Prelude.{◌≡◌, ◌++◌, map, replicate, IfOk, vec_items, string_bytes, OnOk};
-ghost use Rattle.std.specs.Option.{option_map};
+ghost use Rattle.std.specs.Prelude.{◌≡◌, vec_items, string_bytes};
 ghost use Rattle.std.specs.Str.{bytes_eq};
-ghost use Rattle.words.specs.Words.{number_of, size_of, item_of, repeated, list_of, digit_of, byte_of, bytes_of, is_name_byte, is_name, name_of, truth_of};
+ghost use Rattle.words.specs.Said.{Says};
+ghost use Rattle.words.specs.Words.{number_of, size_of, digit_of, byte_of, bytes_of, is_name_byte, is_name, name_of, truth_of};
 
-use crate::split::{Mark, pieces, reach};
-use std::alloc::{AllocError, Global};
+use crate::unsaid::Unsaid;
+use std::alloc::Global;
 
 // The most cells that a list or a buffer of a script has.
 pub const MAX_CELLS: usize = 16777216;
@@ -14,70 +14,18 @@ pub const MAX_CELLS: usize = 16777216;
 pub fn number(word: &[u8]) -> Option<usize>
     ensures { result ≡ number_of word.now }
 {
-    if word.is_empty() {
-        return None;
-    }
     // `parse` takes a sign, and a script has none
-    if word[0] == b'+' {
+    if word.is_empty() || word[0] == b'+' {
         return None;
     }
-    match std::str::from_utf8(word) {
-        Ok(text) => text.parse::<usize>().ok(),
-        Err(_) => None,
-    }
+    std::str::from_utf8(word).ok()?.parse::<usize>().ok()
 }
 
 // The length of a list or a buffer.
 pub fn size(word: &[u8]) -> Option<usize>
     ensures { result ≡ size_of word.now }
 {
-    let size = number(word)?;
-    if size <= MAX_CELLS { Some(size) } else { None }
-}
-
-// What an item of a list says: a number, and how often it comes.
-pub fn run(item: &[u8]) -> Option<(usize, usize)>
-    ensures { option_map repeated result ≡ item_of item.now }
-{
-    let end = reach(item, Mark::Star);
-    if end == item.len() {
-        let value = number(item)?;
-        return Some((value, 1));
-    }
-    let value = number(&item[0..end])?;
-    let times = number(&item[end + 1..])?;
-    Some((value, times))
-}
-
-// Puts a number at the end of a list, so many times.
-fn repeat(list: &mut Vec<usize>, value: usize, times: usize) -> Result<(), AllocError>
-    ensures { OnOk result (list.new.items ≡ list.old.items ++ replicate times value) }
-{
-    for _ in 0..times {
-        list.push(value)?;
-    }
-    Ok(())
-}
-
-// The list that a word says: items with commas between them, or a dash for the empty list.
-pub fn list(heap: Global, word: &[u8]) -> Result<Option<Vec<usize>>, AllocError>
-    ensures { IfOk result (λ o. option_map vec_items o ≡ list_of word.now) }
-{
-    let mut list = Vec::new(heap);
-    if says(word, "-") {
-        return Ok(Some(list));
-    }
-    let items = pieces(heap, word, Mark::Comma)?;
-    for item in items.iter() {
-        let Some((value, times)) = run(item) else {
-            return Ok(None);
-        };
-        if times > MAX_CELLS.saturating_sub(list.len()) {
-            return Ok(None);
-        }
-        repeat(&mut list, value, times)?;
-    }
-    Ok(Some(list))
+    number(word).filter(|size| *size <= MAX_CELLS)
 }
 
 // Whether a word is this one.
@@ -102,32 +50,26 @@ fn digit(code: u8) -> Option<u8>
 fn byte(high: u8, low: u8) -> Option<u8>
     ensures { result ≡ byte_of high low }
 {
-    let high = digit(high)?;
-    let low = digit(low)?;
-    Some(16 * high + low)
+    Some(16 * digit(high)? + digit(low)?)
 }
 
 // The bytes that a word says: two hexadecimal digits each, or a dash for none.
-pub fn bytes(heap: Global, word: &[u8]) -> Result<Option<Vec<u8>>, AllocError>
-    ensures { IfOk result (λ o. option_map vec_items o ≡ bytes_of word.now) }
+pub fn bytes(heap: Global, word: &[u8]) -> Result<Vec<u8>, Unsaid>
+    ensures { Says vec_items (bytes_of word.now) result }
 {
     let mut bytes = Vec::new(heap);
     if says(word, "-") {
-        return Ok(Some(bytes));
+        return Ok(bytes);
     }
-    if word.is_empty() {
-        return Ok(None);
+    if word.is_empty() || word.len() % 2 != 0 || word.len() / 2 > MAX_CELLS {
+        return Err(Unsaid::Nothing);
     }
-    if word.len() % 2 != 0 || word.len() / 2 > MAX_CELLS {
-        return Ok(None);
+    let mut rest = word;
+    while let [high, low, others @ ..] = rest {
+        bytes.push(byte(*high, *low).ok_or(Unsaid::Nothing)?)?;
+        rest = others;
     }
-    for place in 0..word.len() / 2 {
-        match byte(word[2 * place], word[2 * place + 1]) {
-            Some(byte) => bytes.push(byte)?,
-            None => return Ok(None),
-        }
-    }
-    Ok(Some(bytes))
+    Ok(bytes)
 }
 
 // Whether a byte may stand in a name: a letter, a digit, `_` or `-`.
@@ -141,24 +83,16 @@ fn is_name_byte(code: u8) -> bool
 fn is_name(word: &[u8]) -> bool
     ensures { result ≡ is_name word.now }
 {
-    for code in word {
-        if !is_name_byte(*code) {
-            return false;
-        }
-    }
-    !word.is_empty()
+    !word.is_empty() && word.iter().all(|code| is_name_byte(*code))
 }
 
 // The name that a word says.
-pub fn name(heap: Global, word: &[u8]) -> Result<Option<String>, AllocError>
-    ensures { IfOk result (λ o. option_map string_bytes o ≡ name_of word.now) }
+pub fn name(heap: Global, word: &[u8]) -> Result<String, Unsaid>
+    ensures { Says string_bytes (name_of word.now) result }
 {
-    if !is_name(word) {
-        return Ok(None);
-    }
     match std::str::from_utf8(word) {
-        Ok(text) => Ok(Some(String::from_str(heap, text)?)),
-        Err(_) => Ok(None),
+        Ok(text) if is_name(word) => Ok(String::from_str(heap, text)?),
+        _ => Err(Unsaid::Nothing),
     }
 }
 

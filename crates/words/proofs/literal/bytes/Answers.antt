@@ -1,32 +1,33 @@
-use Rattle.std.proofs.Common.{◌+◌, ◌*◌, [], ◌∷◌, length, drop, Some, vec_items, sym, ap, ◌∙◌, inl, inr, arith, length-append}
-use Rattle.words.specs.Words.{after, hex_of}
-use Rattle.words.proofs.Saying.{dash_bytes, empty_bytes, sized_bytes, bytes_more, no_byte, whole_bytes}
+use Rattle.std.proofs.Common.{◌≡◌, ◌+◌, ◌*◌, [], ◌∷◌, length, Some, None, vec_items, sym, ap, ◌∙◌, inl, inr, arith, length-append, length-take, length-drop, rules}
+use Rattle.words.proofs.Saying.{dash_bytes, empty_bytes, sized_bytes, no_byte, bytes_more, bytes_left, whole_bytes, refused, told}
 use Rattle.words.proofs.literal.bytes.Goals as goal
-use Rattle.words.proofs.literal.bytes.Goals.{then-word-ne0-via-then-word-ne0, then-word-ne0-via-else-word-ne0+then-word-gt-MAX_CELLS}
+use Rattle.words.proofs.literal.bytes.Goals.{then-is_empty-via-then-is_empty, then-is_empty-via-else-is_empty+then-word-ne0, then-is_empty-via-else-is_empty+else-word-ne0+then-word-gt-MAX_CELLS}
 
 pub returns-then-says : goal.returns-then-says
 returns-then-says c = ap Some c.new-bytes.ensures.items ∙ dash_bytes c.args.word.now (sym c.if-says.ensures)
 
 pub returns-then-is_empty : goal.returns-then-is_empty
-returns-then-is_empty c = empty_bytes c.args.word.now (sym c.if-says.ensures) (sym c.if-is_empty.ensures)
+returns-then-is_empty c =
+    elim c.then-is_empty.branch [
+      | then-is_empty-via-then-is_empty w ↦ empty_bytes c.args.word.now (sym c.if-says.ensures) (sym w.if-is_empty.ensures)
+      | then-is_empty-via-else-is_empty+then-word-ne0 w ↦ sized_bytes c.args.word.now (sym c.if-says.ensures) (sym w.if-is_empty.ensures) (inl w.if-word-ne0.true)
+      | then-is_empty-via-else-is_empty+else-word-ne0+then-word-gt-MAX_CELLS w ↦ sized_bytes c.args.word.now (sym c.if-says.ensures) (sym w.if-is_empty.ensures) (inr w.if-word-gt-MAX_CELLS.true)
+    ]
 
-pub returns-then-word-ne0 : goal.returns-then-word-ne0
-returns-then-word-ne0 c = sized_bytes c.args.word.now (sym c.if-says.ensures) (sym c.if-is_empty.ensures)
-    (elim c.then-word-ne0.branch [
-      | then-word-ne0-via-then-word-ne0 w ↦ inl w.if-word-ne0.true
-      | then-word-ne0-via-else-word-ne0+then-word-gt-MAX_CELLS w ↦ inr w.if-word-gt-MAX_CELLS.true
-    ])
+pub returns-in_err-ok_or : goal.returns-in_err-ok_or
+returns-in_err-ok_or c =
+    let r = refused c.byte.result c.in_err-ok_or.field-0.0 c.in_err-ok_or.ensures.value in
+    let none : None ≡ _ = no_byte c.args.word.now (sym c.if-says.ensures) (sym c.if-is_empty.ensures) _ c.loop-rest.rest.now c.loop-rest.invariant.0 c.in-len2-up.len_at_least (sym r.0 ∙ c.byte.ensures) in
+    search (rules, r.1, none)
 
-pub returns-in-None : goal.returns-in-None
-returns-in-None c = no_byte c.args.word.now (sym c.if-says.ensures) (sym c.if-is_empty.ensures) c.loop-place.place _ c.loop-place.invariant.0 (omega arith) c.in-None.ensures
-
-pub loop-place-preserved : goal.loop-place-preserved
-loop-place-preserved c =
-    let pushed = c.in_ok-push-in-Some.ensures.items in (
-      ap (λ l. after (Some l) (hex_of (drop (2 * (c.loop-place.place + 1)) c.args.word.now))) pushed
-          ∙ bytes_more c.args.word.now (sym c.if-says.ensures) (sym c.if-is_empty.ensures) c.loop-place.place _ c.loop-place.invariant.0 c.in-Some.byte (omega arith) c.in-Some.ensures,
-      omega (arith, ap length pushed ∙ length-append (vec_items c.loop-place.bytes) (c.in-Some.byte ∷ []), c.loop-place.invariant.1),
+pub loop-rest-preserved : goal.loop-rest-preserved
+loop-rest-preserved c =
+    let done = vec_items c.loop-rest.bytes in
+    let rest = c.loop-rest.rest.now in
+    let one = c.in_ok-ok_or.field-0 in (
+      bytes_more done rest _ one c.in_ok-push.ensures.items c.in-len2-up.len_at_least (told c.byte.result one c.in_ok-ok_or.ensures.value ∙ c.byte.ensures) ∙ c.loop-rest.invariant.0,
+      bytes_left done rest _ one c.in_ok-push.ensures.items c.in-len2-up.len_at_least _ c.loop-rest.invariant.1,
     )
 
 pub returns : goal.returns
-returns c = whole_bytes c.args.word.now (sym c.if-says.ensures) (sym c.if-is_empty.ensures) c.loop-place.place _ c.loop-place.invariant.0 (omega arith) (omega arith)
+returns c = whole_bytes c.args.word.now (sym c.if-says.ensures) (sym c.if-is_empty.ensures) _ c.loop-rest.rest.now c.loop-rest.invariant.0 c.in_default.len_below c.loop-rest.invariant.1 (omega (arith, c.if-word-ne0.false)) (omega (arith, c.if-word-gt-MAX_CELLS.false))

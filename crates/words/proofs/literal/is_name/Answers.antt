@@ -1,31 +1,14 @@
-use Rattle.std.proofs.Common.{◌≡◌, ◌+◌, Bool, true, false, not, ◌&&◌, eqb, length, drop, sym, refl, ap, ◌∙◌}
-use Rattle.std.proofs.lemmas.List.{at_drop_more, at_drop_all}
-use Rattle.std.proofs.lemmas.Bool.{and_right}
-use Rattle.words.specs.Words.{all_name_bytes}
+use Rattle.std.proofs.Common.{◌≡◌, Bool, true, not, ◌&&◌, eqb, length, refl, sym, ap, ◌∙◌, rules, tests}
+use Rattle.std.specs.List.{list_all}
+use Rattle.std.proofs.lemmas.Iterator.{YieldsList-from_slice}
+use Rattle.std.proofs.lemmas.Iterator.Search.{all_from_yields_List}
+use Rattle.std.proofs.lemmas.List.Recursion.{same_from_clauses}
+use Rattle.words.specs.Words.{is_name_byte, all_name_bytes}
 use Rattle.words.proofs.literal.is_name.Goals as goal
 
-pub returns-then-not-is_name_byte : goal.returns-then-not-is_name_byte
-returns-then-not-is_name_byte c =
+pub returns-then-not-is_empty : goal.returns-then-not-is_empty
+returns-then-not-is_empty c =
     let w = c.args.word.now in
-    let i = c.loop-code.code-index in
-    let step = at_drop_more all_name_bytes w i 0 c.loop-code-test.true in
-    let none : all_name_bytes w ≡ false = sym c.loop-code.invariant ∙ step ∙ ap (λ b. b && all_name_bytes (drop (i + 1) w)) (sym c.if-not-is_name_byte.ensures) in
-    sym (and_right (not (eqb (length w) 0)) _ none)
-
-pub loop-code-preserved : goal.loop-code-preserved
-loop-code-preserved c =
-    let w = c.args.word.now in
-    let i = c.loop-code.code-index in
-    let step = at_drop_more all_name_bytes w i 0 c.loop-code-test.true in
-    let on : all_name_bytes (drop i w) ≡ all_name_bytes (drop (i + 1) w) = step ∙ ap (λ b. b && all_name_bytes (drop (i + 1) w)) (sym c.if-not-is_name_byte.ensures) in
-    sym on ∙ c.loop-code.invariant
-
-pub returns : goal.returns
-returns c =
-    let w = c.args.word.now in
-    let all : all_name_bytes w ≡ true = sym c.loop-code.invariant ∙ at_drop_all all_name_bytes w c.loop-code.code-index c.loop-code-test.false in
-    sym (ap (λ b. not (eqb (length w) 0) && b) all ∙ and_true (not (eqb (length w) 0)) ∙ ap not (sym c.is_empty.ensures))
-  where
-    and_true : (b : Bool) → (b && true) ≡ b
-    and_true true = refl
-    and_true false = refl
+    let by_call : c.all.result ≡ list_all is_name_byte w = all_from_yields_List is_name_byte _ _ _ c.all.ensures.ran (YieldsList-from_slice w cc) (λ x b q k. search (rules, tests)) in
+    let by_spec : list_all is_name_byte w ≡ all_name_bytes w = same_from_clauses (list_all is_name_byte) all_name_bytes (λ x r. is_name_byte x && r) refl (λ _ _. refl) (λ _ _. refl) w in
+    by_call ∙ by_spec ∙ ap (λ b. not b && all_name_bytes w) c.if-not-is_empty.ensures
