@@ -1,5 +1,6 @@
 -- What the ring kinds of a script mean: their values, bytes, numbers and texts. Assumes nothing.
-use Rattle.std.specs.Prelude.{◌≡◌, ℕ, ◌+◌, Bool, ◌&&◌, List, ◌++◌, take, drop, codes, decimal, Decides, slice_index}
+use Rattle.std.specs.Prelude.{◌≡◌, ℕ, ◌+◌, Bool, ◌&&◌, List, ◌++◌, take, drop, codes, decimal, Option, Decides, slice_index}
+use Rattle.std.specs.declared.cmp.PartialEq.{Ghosts as PartialEqGhosts}
 use Rattle.ring.specs.Bytes.{eight}
 use Rattle.ring.specs.Extension.{pairs}
 use Rattle.ring.specs.Kinds.{residues, residue_of, residue_value, words, word_of, word_value}
@@ -22,6 +23,33 @@ pub record Kit (E : Type 0) : Type 1 where
   pub text : E → List ℕ
   -- what `==` answers
   pub equals : E → E → Bool → Type 0
+
+-- the ghost members that a script's ring kind has by its traits; S are the options of a hole
+abbrev pub Members : Type 0 → Type 0 → Type 1
+Members E S = record {
+  output : E → Option (List ℕ);
+  styled_output : E → S → Option (List ℕ);
+  ops : Operations;
+  value : E → ops.Value;
+  width : ℕ;
+  spelling : E → List ℕ;
+  parts : ℕ;
+  numbered : List ℕ → E → Type 0;
+  text : E → List ℕ;
+}
+
+-- the kit that they make; `==` answers what its own `eq` does
+abbrev pub kit_of : {E S : Type 0} → Members E S → PartialEqGhosts E → Kit E
+kit_of M Q = record {
+  ops = M.ops;
+  value = M.value;
+  width = M.width;
+  spelling = M.spelling;
+  parts = M.parts;
+  numbered = M.numbered;
+  text = M.text;
+  equals = λ x y r. r ≡ Q.eq x y;
+}
 
 abbrev pub residue_kit : Kit Residue
 residue_kit = record {

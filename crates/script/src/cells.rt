@@ -1,30 +1,29 @@
 // Cells as a script writes them: the numbers of their elements, one element after the other.
-ghost use Rattle.std.specs.Prelude.{◌≡◌, ◌%◌, length, IfOk, string_bytes, MatchOption, ◌≢◌};
+ghost use Rattle.std.specs.Prelude.{◌≡◌, ◌%◌, length, IfOk, string_bytes, ◌≢◌};
+ghost use Rattle.words.specs.Said.{MatchSaid};
 ghost use Rattle.script.specs.Cells.{Numbered};
 ghost use Rattle.script.specs.Records.{separated};
 
 use crate::element::Element;
 use std::alloc::{AllocError, Global};
+use words::Unsaid;
 
 // The elements of a list of numbers, in order; none where the list ends amid an element.
-pub fn elements<R: Element>(heap: Global, numbers: &[usize]) -> Result<Option<Vec<R>>, AllocError>
-    ensures { IfOk result (λ o. MatchOption o (length numbers.now % R.Element.parts ≢ 0) (λ v. Numbered R.Element.parts R.Element.numbered numbers.now v.items)) }
+pub fn elements<R: Element>(heap: Global, numbers: &[usize]) -> Result<Vec<R>, Unsaid>
+    ensures { MatchSaid result (length numbers.now % R.Element.parts ≢ 0) (λ v. Numbered R.Element.parts R.Element.numbered numbers.now v.items) }
 {
     let parts = R::parts();
     let mut elements = Vec::new(heap);
     let mut start = 0;
     while start < numbers.len() {
         if numbers.len() - start < parts {
-            return Ok(None);
+            return Err(Unsaid::Nothing);
         }
         let end = start + parts;
-        let Some(element) = R::of(&numbers[start..end]) else {
-            return Ok(None);
-        };
-        elements.push(element)?;
+        elements.push(R::of(&numbers[start..end]).ok_or(Unsaid::Nothing)?)?;
         start = end;
     }
-    Ok(Some(elements))
+    Ok(elements)
 }
 
 // The canonical numbers of cells, with commas between all of them.

@@ -9,6 +9,7 @@ use std::alloc::Global;
 use words::{Unsaid, bytes, list, name, number, says, size, truth};
 
 // The call that the words of a line say, if they say one.
+#[tactic(auto, unfolding(crate::specs::Calls::meaning))]
 pub fn parse(heap: Global, words: &[&[u8]]) -> Result<Call, Unsaid>
     ensures { Says said (meaning (texts words.now)) result }
 {

@@ -1,6 +1,7 @@
 // Makes the calls at a ring kind.
 ghost use Rattle.std.specs.Prelude.{◌≡◌, ◌++◌, IfOk, codes};
 ghost use Rattle.script.specs.Calls.{ring_said, encode as encode_said, read as read_said, equal as equal_said};
+ghost use Rattle.script.specs.Kits.{kit_of};
 ghost use Rattle.script.specs.Operate.{operate as operated};
 ghost use Rattle.script.specs.Records.{told, field};
 ghost use Rattle.script.specs.Replies.{Operation as OperationReply, RingReply, KindReply};
@@ -39,7 +40,7 @@ fn element_answer<R: Element + PartialEq>(
     heap: Global,
     call: RingCall,
 ) -> Result<Answer, AllocError>
-    ensures { IfOk result (λ t. RingReply {E = R} (record { ops = R.Ring.ops; value = R.Ring.value; width = R.Coefficient.width; spelling = R.Coefficient.spelling; parts = R.Element.parts; numbered = R.Element.numbered; text = R.Element.text; equals = λ x y r. r ≡ R.PartialEq.eq x y }) t (ring_said call)) }
+    ensures { IfOk result (λ t. RingReply (kit_of R.Element R.PartialEq) t (ring_said call)) }
 {
     match call {
         RingCall::ByteLength => Ok(Answer::ByteLength {
@@ -70,7 +71,7 @@ fn encoded<R: Element + PartialEq>(
     numbers: &[usize],
     room: usize,
 ) -> Result<Answer, AllocError>
-    ensures { IfOk result (λ t. RingReply {E = R} (record { ops = R.Ring.ops; value = R.Ring.value; width = R.Coefficient.width; spelling = R.Coefficient.spelling; parts = R.Element.parts; numbered = R.Element.numbered; text = R.Element.text; equals = λ x y r. r ≡ R.PartialEq.eq x y }) t (encode_said numbers.now room)) }
+    ensures { IfOk result (λ t. RingReply (kit_of R.Element R.PartialEq) t (encode_said numbers.now room)) }
 {
     let Some(element) = R::of(numbers) else {
         return Ok(Answer::NoCall);
@@ -83,7 +84,7 @@ fn encoded<R: Element + PartialEq>(
 }
 
 fn read_back<R: Element + PartialEq>(heap: Global, bytes: &[u8]) -> Result<Answer, AllocError>
-    ensures { IfOk result (λ t. RingReply {E = R} (record { ops = R.Ring.ops; value = R.Ring.value; width = R.Coefficient.width; spelling = R.Coefficient.spelling; parts = R.Element.parts; numbered = R.Element.numbered; text = R.Element.text; equals = λ x y r. r ≡ R.PartialEq.eq x y }) t (read_said bytes.now)) }
+    ensures { IfOk result (λ t. RingReply (kit_of R.Element R.PartialEq) t (read_said bytes.now)) }
 {
     match R::read(bytes) {
         Some(element) => tell(heap, element),
@@ -97,7 +98,7 @@ fn calculated<R: Element + PartialEq>(
     b: &[usize],
     operation: Operation,
 ) -> Result<Answer, AllocError>
-    ensures { IfOk result (λ t. OperationReply {E = R} (record { ops = R.Ring.ops; value = R.Ring.value; width = R.Coefficient.width; spelling = R.Coefficient.spelling; parts = R.Element.parts; numbered = R.Element.numbered; text = R.Element.text; equals = λ x y r. r ≡ R.PartialEq.eq x y }) t a.now b.now (operated R.Ring.ops operation)) }
+    ensures { IfOk result (λ t. OperationReply (kit_of R.Element R.PartialEq) t a.now b.now (operated R.Ring.ops operation)) }
 {
     let Some(x) = R::of(a) else {
         return Ok(Answer::NoCall);
@@ -119,7 +120,7 @@ fn operate<R: Ring>(x: R, y: R, operation: Operation) -> R
 }
 
 fn compared<R: Element + PartialEq>(a: &[usize], b: &[usize]) -> Answer
-    ensures { RingReply {E = R} (record { ops = R.Ring.ops; value = R.Ring.value; width = R.Coefficient.width; spelling = R.Coefficient.spelling; parts = R.Element.parts; numbered = R.Element.numbered; text = R.Element.text; equals = λ x y r. r ≡ R.PartialEq.eq x y }) result (equal_said a.now b.now) }
+    ensures { RingReply (kit_of R.Element R.PartialEq) result (equal_said a.now b.now) }
 {
     let Some(x) = R::of(a) else {
         return Answer::NoCall;

@@ -52,7 +52,7 @@ fn element_answer<R: Element + PartialEq>(
     heap: Global,
     call: Call,
 ) -> Result<String, AllocError>
-    ensures { IfOk result (λ s. Reply {E = R} (record { ops = R.Ring.ops; value = R.Ring.value; width = R.Coefficient.width; spelling = R.Coefficient.spelling; parts = R.Element.parts; numbered = R.Element.numbered; text = R.Element.text; equals = λ x y r. r ≡ R.PartialEq.eq x y }) (string_bytes s) (slot session.now) (said call)) }
+    ensures { IfOk result (λ s. Reply (kit_of R.Element R.PartialEq) (string_bytes s) (slot session.now) (said call)) }
 {
     match call {
         Call::EqualityPrefix { point, buffer } => prefix_text::<R>(heap, &point, &buffer),
@@ -78,7 +78,7 @@ fn prefix_text<R: Element + PartialEq>(
     point: &[usize],
     buffer: &[usize],
 ) -> Result<String, AllocError>
-    ensures { IfOk result (λ s. Given {E = R} (record { ops = R.Ring.ops; value = R.Ring.value; width = R.Coefficient.width; spelling = R.Coefficient.spelling; parts = R.Element.parts; numbered = R.Element.numbered; text = R.Element.text; equals = λ x y r. r ≡ R.PartialEq.eq x y }) (string_bytes s) point.now (λ p. Given {E = R} (record { ops = R.Ring.ops; value = R.Ring.value; width = R.Coefficient.width; spelling = R.Coefficient.spelling; parts = R.Element.parts; numbered = R.Element.numbered; text = R.Element.text; equals = λ x y r. r ≡ R.PartialEq.eq x y }) (string_bytes s) buffer.now (Weights {E = R} (record { ops = R.Ring.ops; value = R.Ring.value; width = R.Coefficient.width; spelling = R.Coefficient.spelling; parts = R.Element.parts; numbered = R.Element.numbered; text = R.Element.text; equals = λ x y r. r ≡ R.PartialEq.eq x y }) (string_bytes s) p))) }
+    ensures { IfOk result (λ s. Given (kit_of R.Element R.PartialEq) (string_bytes s) point.now (λ p. Given (kit_of R.Element R.PartialEq) (string_bytes s) buffer.now (Weights (kit_of R.Element R.PartialEq) (string_bytes s) p))) }
 {
     let Some(point) = elements::<R>(heap, point)? else {
         return no_call(heap);
@@ -96,7 +96,7 @@ fn table_text<R: Element + PartialEq>(
     column: &[usize],
     cells: &[usize],
 ) -> Result<String, AllocError>
-    ensures { IfOk result (λ s. Given {E = R} (record { ops = R.Ring.ops; value = R.Ring.value; width = R.Coefficient.width; spelling = R.Coefficient.spelling; parts = R.Element.parts; numbered = R.Element.numbered; text = R.Element.text; equals = λ x y r. r ≡ R.PartialEq.eq x y }) (string_bytes s) row.now (λ x. Given {E = R} (record { ops = R.Ring.ops; value = R.Ring.value; width = R.Coefficient.width; spelling = R.Coefficient.spelling; parts = R.Element.parts; numbered = R.Element.numbered; text = R.Element.text; equals = λ x y r. r ≡ R.PartialEq.eq x y }) (string_bytes s) column.now (λ y. Given {E = R} (record { ops = R.Ring.ops; value = R.Ring.value; width = R.Coefficient.width; spelling = R.Coefficient.spelling; parts = R.Element.parts; numbered = R.Element.numbered; text = R.Element.text; equals = λ x y r. r ≡ R.PartialEq.eq x y }) (string_bytes s) cells.now (Tabled {E = R} (record { ops = R.Ring.ops; value = R.Ring.value; width = R.Coefficient.width; spelling = R.Coefficient.spelling; parts = R.Element.parts; numbered = R.Element.numbered; text = R.Element.text; equals = λ x y r. r ≡ R.PartialEq.eq x y }) (string_bytes s) (shape layout.now) x y)))) }
+    ensures { IfOk result (λ s. Given (kit_of R.Element R.PartialEq) (string_bytes s) row.now (λ x. Given (kit_of R.Element R.PartialEq) (string_bytes s) column.now (λ y. Given (kit_of R.Element R.PartialEq) (string_bytes s) cells.now (Tabled (kit_of R.Element R.PartialEq) (string_bytes s) (shape layout.now) x y)))) }
 {
     let Some(row) = elements::<R>(heap, row)? else {
         return no_call(heap);
@@ -117,7 +117,7 @@ fn value_text<R: Element + PartialEq>(
     column: &[usize],
     cells: &[usize],
 ) -> Result<String, AllocError>
-    ensures { IfOk result (λ s. Given {E = R} (record { ops = R.Ring.ops; value = R.Ring.value; width = R.Coefficient.width; spelling = R.Coefficient.spelling; parts = R.Element.parts; numbered = R.Element.numbered; text = R.Element.text; equals = λ x y r. r ≡ R.PartialEq.eq x y }) (string_bytes s) row.now (λ x. Given {E = R} (record { ops = R.Ring.ops; value = R.Ring.value; width = R.Coefficient.width; spelling = R.Coefficient.spelling; parts = R.Element.parts; numbered = R.Element.numbered; text = R.Element.text; equals = λ x y r. r ≡ R.PartialEq.eq x y }) (string_bytes s) column.now (λ y. Given {E = R} (record { ops = R.Ring.ops; value = R.Ring.value; width = R.Coefficient.width; spelling = R.Coefficient.spelling; parts = R.Element.parts; numbered = R.Element.numbered; text = R.Element.text; equals = λ x y r. r ≡ R.PartialEq.eq x y }) (string_bytes s) cells.now (Evaluated {E = R} (record { ops = R.Ring.ops; value = R.Ring.value; width = R.Coefficient.width; spelling = R.Coefficient.spelling; parts = R.Element.parts; numbered = R.Element.numbered; text = R.Element.text; equals = λ x y r. r ≡ R.PartialEq.eq x y }) (string_bytes s) (shape layout.now) x y)))) }
+    ensures { IfOk result (λ s. Given (kit_of R.Element R.PartialEq) (string_bytes s) row.now (λ x. Given (kit_of R.Element R.PartialEq) (string_bytes s) column.now (λ y. Given (kit_of R.Element R.PartialEq) (string_bytes s) cells.now (Evaluated (kit_of R.Element R.PartialEq) (string_bytes s) (shape layout.now) x y)))) }
 {
     let Some(row) = elements::<R>(heap, row)? else {
         return no_call(heap);

@@ -15,7 +15,7 @@ pub(crate) fn weights<R: Element + PartialEq>(
     point: &[R],
     buffer: &mut [R],
 ) -> Result<String, AllocError>
-    ensures { IfOk result (λ s. Weights {E = R} (record { ops = R.Ring.ops; value = R.Ring.value; width = R.Coefficient.width; spelling = R.Coefficient.spelling; parts = R.Element.parts; numbered = R.Element.numbered; text = R.Element.text; equals = λ x y r. r ≡ R.PartialEq.eq x y }) (string_bytes s) point.now buffer.old) }
+    ensures { IfOk result (λ s. Weights (kit_of R.Element R.PartialEq) (string_bytes s) point.now buffer.old) }
 {
     let written = equality_prefix(point, buffer);
     let cells = cells_text(heap, buffer)?;
@@ -31,7 +31,7 @@ pub(crate) fn tabled<'a, R: Element + PartialEq>(
     column: &'a [R],
     buffer: &mut [R],
 ) -> Result<String, AllocError>
-    ensures { IfOk result (λ s. Tabled {E = R} (record { ops = R.Ring.ops; value = R.Ring.value; width = R.Coefficient.width; spelling = R.Coefficient.spelling; parts = R.Element.parts; numbered = R.Element.numbered; text = R.Element.text; equals = λ x y r. r ≡ R.PartialEq.eq x y }) (string_bytes s) (shape layout.now) row.now column.now buffer.old) }
+    ensures { IfOk result (λ s. Tabled (kit_of R.Element R.PartialEq) (string_bytes s) (shape layout.now) row.now column.now buffer.old) }
 {
     let point = JaggedPoint::new(row, column);
     match table(layout, &point, buffer) {
@@ -52,7 +52,7 @@ pub(crate) fn evaluated<'a, R: Element + PartialEq>(
     column: &'a [R],
     dense: &[R],
 ) -> Result<String, AllocError>
-    ensures { IfOk result (λ s. Evaluated {E = R} (record { ops = R.Ring.ops; value = R.Ring.value; width = R.Coefficient.width; spelling = R.Coefficient.spelling; parts = R.Element.parts; numbered = R.Element.numbered; text = R.Element.text; equals = λ x y r. r ≡ R.PartialEq.eq x y }) (string_bytes s) (shape layout.now) row.now column.now dense.now) }
+    ensures { IfOk result (λ s. Evaluated (kit_of R.Element R.PartialEq) (string_bytes s) (shape layout.now) row.now column.now dense.now) }
 {
     let point = JaggedPoint::new(row, column);
     match evaluate(layout, &point, dense) {

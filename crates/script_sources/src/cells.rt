@@ -40,7 +40,7 @@ fn cells_answer<R: Element + PartialEq>(
     heap: Global,
     call: CellsCall,
 ) -> Result<Option<String>, AllocError>
-    ensures { IfOk result (λ o. CellsReply {E = R} (record { ops = R.Ring.ops; value = R.Ring.value; width = R.Coefficient.width; spelling = R.Coefficient.spelling; parts = R.Element.parts; numbered = R.Element.numbered; text = R.Element.text; equals = λ x y r. r ≡ R.PartialEq.eq x y }) (option_map string_bytes o) (slot session.now) (cells_said call)) }
+    ensures { IfOk result (λ o. CellsReply (kit_of R.Element R.PartialEq) (option_map string_bytes o) (slot session.now) (cells_said call)) }
 {
     match call {
         CellsCall::ReadColumns {
@@ -93,7 +93,7 @@ fn columns_answer<R: Element + PartialEq>(
     words: &[usize],
     buffer: &[usize],
 ) -> Result<Option<String>, AllocError>
-    ensures { IfOk result (λ o. Given {E = R} (record { ops = R.Ring.ops; value = R.Ring.value; width = R.Coefficient.width; spelling = R.Coefficient.spelling; parts = R.Element.parts; numbered = R.Element.numbered; text = R.Element.text; equals = λ x y r. r ≡ R.PartialEq.eq x y }) (option_map string_bytes o) cells.now (λ xs. Given {E = R} (record { ops = R.Ring.ops; value = R.Ring.value; width = R.Coefficient.width; spelling = R.Coefficient.spelling; parts = R.Element.parts; numbered = R.Element.numbered; text = R.Element.text; equals = λ x y r. r ≡ R.PartialEq.eq x y }) (option_map string_bytes o) buffer.now (λ bs. Telling {E = R} (record { ops = R.Ring.ops; value = R.Ring.value; width = R.Coefficient.width; spelling = R.Coefficient.spelling; parts = R.Element.parts; numbered = R.Element.numbered; text = R.Element.text; equals = λ x y r. r ≡ R.PartialEq.eq x y }) (option_map string_bytes o) (ReadReply {E = R} (record { ops = R.Ring.ops; value = R.Ring.value; width = R.Coefficient.width; spelling = R.Coefficient.spelling; parts = R.Element.parts; numbered = R.Element.numbered; text = R.Element.text; equals = λ x y r. r ≡ R.PartialEq.eq x y }) (shape layout.now) table.now sources xs words.now bs)))) }
+    ensures { IfOk result (λ o. Given (kit_of R.Element R.PartialEq) (option_map string_bytes o) cells.now (λ xs. Given (kit_of R.Element R.PartialEq) (option_map string_bytes o) buffer.now (λ bs. Telling (kit_of R.Element R.PartialEq) (option_map string_bytes o) (ReadReply (kit_of R.Element R.PartialEq) (shape layout.now) table.now sources xs words.now bs)))) }
 {
     let Some(block) = elements::<R>(heap, cells)? else {
         return Ok(None);
@@ -115,7 +115,7 @@ fn columns_text<R: Element + PartialEq>(
     words: &[u64],
     buffer: &mut [R],
 ) -> Result<String, AllocError>
-    ensures { IfOk result (λ s. ReadReply {E = R} (record { ops = R.Ring.ops; value = R.Ring.value; width = R.Coefficient.width; spelling = R.Coefficient.spelling; parts = R.Element.parts; numbered = R.Element.numbered; text = R.Element.text; equals = λ x y r. r ≡ R.PartialEq.eq x y }) (shape layout.now) table.now sources cells.now words.now buffer.old (string_bytes s)) }
+    ensures { IfOk result (λ s. ReadReply (kit_of R.Element R.PartialEq) (shape layout.now) table.now sources cells.now words.now buffer.old (string_bytes s)) }
 {
     match read_columns(layout, table, sources, cells, words, buffer) {
         Ok(report) => {
@@ -132,7 +132,7 @@ fn committed_answer<R: Element + PartialEq>(
     layout: &JaggedLayout,
     cells: &[usize],
 ) -> Result<Option<String>, AllocError>
-    ensures { IfOk result (λ o. Given {E = R} (record { ops = R.Ring.ops; value = R.Ring.value; width = R.Coefficient.width; spelling = R.Coefficient.spelling; parts = R.Element.parts; numbered = R.Element.numbered; text = R.Element.text; equals = λ x y r. r ≡ R.PartialEq.eq x y }) (option_map string_bytes o) cells.now (λ xs. option_map string_bytes o ≡ Some (committed_reply (shape layout.now) (length xs)))) }
+    ensures { IfOk result (λ o. Given (kit_of R.Element R.PartialEq) (option_map string_bytes o) cells.now (λ xs. option_map string_bytes o ≡ Some (committed_reply (shape layout.now) (length xs)))) }
 {
     let Some(block) = elements::<R>(heap, cells)? else {
         return Ok(None);
@@ -162,7 +162,7 @@ fn vector_answer<R: Element + PartialEq>(
     layout: &JaggedLayout,
     cells: &[usize],
 ) -> Result<Option<String>, AllocError>
-    ensures { IfOk result (λ o. Given {E = R} (record { ops = R.Ring.ops; value = R.Ring.value; width = R.Coefficient.width; spelling = R.Coefficient.spelling; parts = R.Element.parts; numbered = R.Element.numbered; text = R.Element.text; equals = λ x y r. r ≡ R.PartialEq.eq x y }) (option_map string_bytes o) cells.now (λ xs. option_map string_bytes o ≡ Some (vector_reply {E = R} (record { ops = R.Ring.ops; value = R.Ring.value; width = R.Coefficient.width; spelling = R.Coefficient.spelling; parts = R.Element.parts; numbered = R.Element.numbered; text = R.Element.text; equals = λ x y r. r ≡ R.PartialEq.eq x y }) (shape layout.now) xs))) }
+    ensures { IfOk result (λ o. Given (kit_of R.Element R.PartialEq) (option_map string_bytes o) cells.now (λ xs. option_map string_bytes o ≡ Some (vector_reply (kit_of R.Element R.PartialEq) (shape layout.now) xs))) }
 {
     let Some(block) = elements::<R>(heap, cells)? else {
         return Ok(None);
@@ -176,7 +176,7 @@ fn vector_text<R: Element + PartialEq>(
     layout: &JaggedLayout,
     cells: &[R],
 ) -> Result<String, AllocError>
-    ensures { IfOk result (λ s. string_bytes s ≡ vector_reply {E = R} (record { ops = R.Ring.ops; value = R.Ring.value; width = R.Coefficient.width; spelling = R.Coefficient.spelling; parts = R.Element.parts; numbered = R.Element.numbered; text = R.Element.text; equals = λ x y r. r ≡ R.PartialEq.eq x y }) (shape layout.now) cells.now) }
+    ensures { IfOk result (λ s. string_bytes s ≡ vector_reply (kit_of R.Element R.PartialEq) (shape layout.now) cells.now) }
 {
     match witness_of_vector(layout, cells) {
         Ok(witness) => {
@@ -192,7 +192,7 @@ fn buffer_answer<R: Element + PartialEq>(
     layout: &JaggedLayout,
     cells: &[usize],
 ) -> Result<Option<String>, AllocError>
-    ensures { IfOk result (λ o. Given {E = R} (record { ops = R.Ring.ops; value = R.Ring.value; width = R.Coefficient.width; spelling = R.Coefficient.spelling; parts = R.Element.parts; numbered = R.Element.numbered; text = R.Element.text; equals = λ x y r. r ≡ R.PartialEq.eq x y }) (option_map string_bytes o) cells.now (λ xs. option_map string_bytes o ≡ Some (buffer_reply {E = R} (record { ops = R.Ring.ops; value = R.Ring.value; width = R.Coefficient.width; spelling = R.Coefficient.spelling; parts = R.Element.parts; numbered = R.Element.numbered; text = R.Element.text; equals = λ x y r. r ≡ R.PartialEq.eq x y }) (shape layout.now) xs))) }
+    ensures { IfOk result (λ o. Given (kit_of R.Element R.PartialEq) (option_map string_bytes o) cells.now (λ xs. option_map string_bytes o ≡ Some (buffer_reply (kit_of R.Element R.PartialEq) (shape layout.now) xs))) }
 {
     let Some(block) = elements::<R>(heap, cells)? else {
         return Ok(None);
@@ -206,7 +206,7 @@ fn buffer_text<R: Element + PartialEq>(
     layout: &JaggedLayout,
     cells: &[R],
 ) -> Result<String, AllocError>
-    ensures { IfOk result (λ s. string_bytes s ≡ buffer_reply {E = R} (record { ops = R.Ring.ops; value = R.Ring.value; width = R.Coefficient.width; spelling = R.Coefficient.spelling; parts = R.Element.parts; numbered = R.Element.numbered; text = R.Element.text; equals = λ x y r. r ≡ R.PartialEq.eq x y }) (shape layout.now) cells.now) }
+    ensures { IfOk result (λ s. string_bytes s ≡ buffer_reply (kit_of R.Element R.PartialEq) (shape layout.now) cells.now) }
 {
     match witness_of_buffer(layout, cells) {
         Ok(witness) => {
@@ -225,7 +225,7 @@ fn piece_answer<R: Element + PartialEq>(
     words: &[usize],
     buffer: &[usize],
 ) -> Result<Option<String>, AllocError>
-    ensures { IfOk result (λ o. Given {E = R} (record { ops = R.Ring.ops; value = R.Ring.value; width = R.Coefficient.width; spelling = R.Coefficient.spelling; parts = R.Element.parts; numbered = R.Element.numbered; text = R.Element.text; equals = λ x y r. r ≡ R.PartialEq.eq x y }) (option_map string_bytes o) cells.now (λ xs. Given {E = R} (record { ops = R.Ring.ops; value = R.Ring.value; width = R.Coefficient.width; spelling = R.Coefficient.spelling; parts = R.Element.parts; numbered = R.Element.numbered; text = R.Element.text; equals = λ x y r. r ≡ R.PartialEq.eq x y }) (option_map string_bytes o) buffer.now (λ bs. Telling {E = R} (record { ops = R.Ring.ops; value = R.Ring.value; width = R.Coefficient.width; spelling = R.Coefficient.spelling; parts = R.Element.parts; numbered = R.Element.numbered; text = R.Element.text; equals = λ x y r. r ≡ R.PartialEq.eq x y }) (option_map string_bytes o) (PieceReply {E = R} (record { ops = R.Ring.ops; value = R.Ring.value; width = R.Coefficient.width; spelling = R.Coefficient.spelling; parts = R.Element.parts; numbered = R.Element.numbered; text = R.Element.text; equals = λ x y r. r ≡ R.PartialEq.eq x y }) table.now column xs words.now bs)))) }
+    ensures { IfOk result (λ o. Given (kit_of R.Element R.PartialEq) (option_map string_bytes o) cells.now (λ xs. Given (kit_of R.Element R.PartialEq) (option_map string_bytes o) buffer.now (λ bs. Telling (kit_of R.Element R.PartialEq) (option_map string_bytes o) (PieceReply (kit_of R.Element R.PartialEq) table.now column xs words.now bs)))) }
 {
     let Some(block) = elements::<R>(heap, cells)? else {
         return Ok(None);
@@ -246,7 +246,7 @@ fn piece_text<R: Element + PartialEq>(
     words: &[u64],
     buffer: &mut [R],
 ) -> Result<String, AllocError>
-    ensures { IfOk result (λ s. PieceReply {E = R} (record { ops = R.Ring.ops; value = R.Ring.value; width = R.Coefficient.width; spelling = R.Coefficient.spelling; parts = R.Element.parts; numbered = R.Element.numbered; text = R.Element.text; equals = λ x y r. r ≡ R.PartialEq.eq x y }) table.now column cells.now words.now buffer.old (string_bytes s)) }
+    ensures { IfOk result (λ s. PieceReply (kit_of R.Element R.PartialEq) table.now column cells.now words.now buffer.old (string_bytes s)) }
 {
     match write_piece(table, column, cells, words, buffer) {
         Ok(rows) => {

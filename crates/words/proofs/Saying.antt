@@ -253,3 +253,7 @@ refused (Some x) e h = search rules
 pub told : {A : Type 0} (o : Option A) (x : A) → Ok x ≡ ok_or o Nothing → Some x ≡ o
 told None x h = search rules
 told (Some y) x h = search rules
+
+pub made : {A : Type 0} (N : Type 0) (P : A → Type 0) (o : Option A) (x : A) → Ok x ≡ ok_or o Nothing → MatchOption o N P → P x
+made N P None x h m = search rules
+made N P (Some y) x h m = subst (λ o. MatchOption o (P x) P) (sym (told (Some y) x h)) m

@@ -13,3 +13,9 @@ Says view meant (Err (NoMemory e)) = ⊤
 abbrev pub IsNoMemory : Unsaid → Type 0
 IsNoMemory Nothing = ⊥
 IsNoMemory (NoMemory e) = ⊤
+
+-- what is said of an answer, and what of none; without memory nothing is promised
+abbrev pub MatchSaid : {T : Type 0} → Result T Unsaid → Type 0 → (T → Type 0) → Type 0
+MatchSaid (Ok x) none some = some x
+MatchSaid (Err Nothing) none some = none
+MatchSaid (Err (NoMemory e)) none some = ⊤

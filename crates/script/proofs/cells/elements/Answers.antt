@@ -1,5 +1,6 @@
 use Rattle.std.proofs.Common.{◌≡◌, ◌+◌, ◌-◌, length, take, drop, vec_items, ap, ◌∙◌, subst, arith, length-drop, length-take}
 use Rattle.script.proofs.Numbering.{amid, reached_more, each_more}
+use Rattle.words.proofs.Saying.{made}
 use Rattle.script.proofs.cells.elements.Goals as goal
 
 pub returns-then-numbers-start : goal.returns-then-numbers-start
@@ -14,10 +15,11 @@ loop-start-preserved g c =
     let ns = c.args.numbers.now in
     let start = c.loop-start.start in
     let inv = c.loop-start.invariant in
-    let given = c.in-Some.ensures in
+    let x = c.in_ok-ok_or.field-0 in
+    let given : (length (take (start + c.parts-parts.result - start) (drop start ns)) ≡ parts) × g.R.Element.numbered (take (start + c.parts-parts.result - start) (drop start ns)) x = made _ _ c.of.result x c.in_ok-ok_or.ensures.value c.of.ensures in
     let span : start + c.parts-parts.result - start ≡ parts = omega (arith, given.0, length-take (start + c.parts-parts.result - start) (drop start ns), length-drop start ns, c.if-numbers-start.false, c.loop-start-test.true) in
     let same : c.parts-parts.result ≡ parts = omega (arith, span) in (
-      ap (λ n. start + n) same ∙ reached_more parts g.R.Element.numbered ns _ _ c.in-Some.element start c.in_ok-push.ensures.items inv.0,
+      ap (λ n. start + n) same ∙ reached_more parts g.R.Element.numbered ns _ _ x start c.in_ok-push.ensures.items inv.0,
       omega (arith, c.if-numbers-start.false, c.loop-start-test.true),
-      each_more parts g.R.Element.numbered ns _ _ c.in-Some.element start c.in_ok-push.ensures.items inv.0 inv.2 (subst (λ n. g.R.Element.numbered (take n (drop start ns)) c.in-Some.element) span given.1),
+      each_more parts g.R.Element.numbered ns _ _ x start c.in_ok-push.ensures.items inv.0 inv.2 (subst (λ n. g.R.Element.numbered (take n (drop start ns)) x) span given.1),
     )
