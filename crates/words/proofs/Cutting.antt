@@ -1,7 +1,9 @@
 -- Texts cut at their marks, one piece at a time. Assumes nothing.
-use Rattle.std.proofs.Common.{◌≡◌, ℕ, ◌+◌, ◌<◌, Bool, true, false, cond, not, eqb, List, [], ◌∷◌, ◌++◌, length, get_or, take, drop, filter, sym, refl, ap, ◌∙◌, append_assoc, add-one, one-add, arith, Bor}
-use Rattle.std.proofs.lemmas.List.Elements.{filter_more}
-use Rattle.std.proofs.lemmas.List.{map_push, length-map, get_or-map}
+use Rattle.std.proofs.Common.{◌≡◌, ℕ, ◌+◌, ◌<◌, ◌≤◌, ltb, Option, Some, None, Bool, true, false, cond, not, eqb, List, [], ◌∷◌, ◌++◌, length, take, drop, filter, sym, refl, ap, ◌∙◌, append_assoc, add-one, one-add, arith, Bor}
+use Rattle.std.specs.List.{position_or_len}
+use Rattle.std.specs.Option.{unwrap_or}
+use Rattle.std.proofs.lemmas.Bool.{ltb-false}
+use Rattle.std.proofs.lemmas.List.{map_push}
 use Rattle.words.specs.declared.split.Mark.{Mark}
 use Rattle.words.specs.Cuts.{is_mark, ahead, onto, pieces, texts}
 
@@ -57,19 +59,30 @@ module _ (mark : Mark) (whole : List (List ℕ)) (rest : List ℕ) (ps : List (B
 abbrev pub solid : List ℕ → Bool
 solid w = not (eqb (length w) 0)
 
--- the words among the pieces so far, and the next piece
-pub kept_next : (items : List (Bor (List ℕ))) (i : ℕ) (d : Bor (List ℕ)) (ws : List (List ℕ)) (empty : Bool) → i < length items → ws ≡ filter solid (take i (texts items)) → empty ≡ eqb (length (get_or items i d).now) 0 → ws ++ cond empty [] ((get_or items i d).now ∷ []) ≡ filter solid (take (i + 1) (texts items))
-kept_next items i d ws empty lt sofar test =
-    let item = get_or-map (λ (q : Bor (List ℕ)). q.now) items i d [] lt in
-    let within : i < length (texts items) = omega (arith, length-map items (λ (q : Bor (List ℕ)). q.now)) in
-    (λ t. sofar t ++ cond (test t) [] ((get_or items i d).now ∷ []))
-    ∙ ap (λ w. filter solid (take i (texts items)) ++ cond (eqb (length w) 0) [] (w ∷ [])) (sym item)
-    ∙ ap (λ l. filter solid (take i (texts items)) ++ l) (turned (eqb (length (get_or (texts items) i [])) 0) _)
-    ∙ sym (filter_more solid (texts items) i [] within)
+-- the words among the pieces
+pub kept : (items : List (Bor (List ℕ))) → texts (filter (λ (q : Bor (List ℕ)). solid q.now) items) ≡ filter solid (texts items)
+kept [] = refl
+kept (q ∷ qs) = by (solid q.now) (kept qs)
   where
-    turned : (b : Bool) (x : List (List ℕ)) → cond b [] x ≡ cond (not b) x []
-    turned true x = refl
-    turned false x = refl
+    by : (t : Bool) → texts (filter (λ (r : Bor (List ℕ)). solid r.now) qs) ≡ filter solid (texts qs) → texts (cond t (q ∷ filter (λ (r : Bor (List ℕ)). solid r.now) qs) (filter (λ (r : Bor (List ℕ)). solid r.now) qs)) ≡ cond t (q.now ∷ filter solid (texts qs)) (filter solid (texts qs))
+    by true e = ap (λ l. q.now ∷ l) e
+    by false e = e
+
+-- the place of the first mark, or the length where there is none
+pub place_within : (test : ℕ → Bool) (bs : List ℕ) → position_or_len test bs ≤ length bs
+place_within test [] = omega arith
+place_within test (b ∷ bs) = by (not (test b)) (place_within test bs)
+  where
+    by : (t : Bool) → position_or_len test bs ≤ length bs → cond t (1 + position_or_len test bs) 0 ≤ length (b ∷ bs)
+    by true h = omega (arith, h)
+    by false h = omega arith
+
+pub or_end : (p n : ℕ) (o : Option ℕ) → p ≤ n → o ≡ cond (ltb p n) (Some p) None → unwrap_or o n ≡ p
+or_end p n o within e = ap (λ q. unwrap_or q n) e ∙ by (ltb p n) refl
+  where
+    by : (t : Bool) → ltb p n ≡ t → unwrap_or (cond t (Some p) None) n ≡ p
+    by true h = refl
+    by false h = omega (arith, within, ltb-false p n h)
 
 -- what an index past the end reads
 abbrev pub nothing : Bor (List ℕ)

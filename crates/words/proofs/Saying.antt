@@ -10,7 +10,7 @@ use Rattle.std.proofs.lemmas.Bool.Decides.{nat_tests}
 use Rattle.std.specs.Result.{result_ok, OkIff}
 use Rattle.std.specs.Str.{all_ascii_digits, bytes_eq}
 use Rattle.std.proofs.lemmas.Fmt.{IsAscii-from_digits}
-use Rattle.std.proofs.lemmas.List.{nil_from_length, take_all, take_rest, replicate_more, at_drop_more, at_drop_all, drop_more, get_or-map, length-map}
+use Rattle.std.proofs.lemmas.List.{nil_from_length, take_all, take_rest, at_drop_more, at_drop_all, get_or-map, length-map}
 use Rattle.std.proofs.lemmas.Str.Parse.{IsNumeralModel, numerals_by_value, tells_all_ascii_digits, parse_plain}
 use Rattle.std.proofs.lemmas.Bool.{and_from, and_parts, cases_Bool, ltb-true, lt-ltb, le-ltb, le-leb, lt-leb, eqb-false, ne_eqb, not_from_false, true≢false}
 use Rattle.std.proofs.lemmas.Str.{IsUtf8-from_ascii}

@@ -3,7 +3,6 @@
 
 mod items;
 mod literal;
-
 mod split;
 mod unsaid;
 

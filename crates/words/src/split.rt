@@ -5,7 +5,7 @@ ghost use Rattle.words.specs.Cuts.{is_mark, ahead, pieces as cut, texts, words a
 use std::alloc::{AllocError, Global};
 
 // What a text is cut at.
-#[derive(Clone, Copy)]
+#[derive(Clone, Copy, Debug, PartialEq, Eq)]
 pub enum Mark {
     Newline,
     // a space, a tab or a carriage return
@@ -23,7 +23,7 @@ impl Mark {
     {
         match self {
             Mark::Newline => byte == b'\n',
-            Mark::Blank => byte == b' ' || byte == b'\t' || byte == b'\r',
+            Mark::Blank => matches!(byte, b' ' | b'\t' | b'\r'),
             Mark::Comma => byte == b',',
             Mark::Star => byte == b'*',
             Mark::Semicolon => byte == b';',
@@ -37,12 +37,9 @@ pub fn reach(text: &[u8], mark: Mark) -> usize
     ensures answer { result ≡ ahead mark text.now }
     ensures within { result ≤ length text.now }
 {
-    for (place, byte) in text.iter().enumerate() {
-        if mark.is(*byte) {
-            return place;
-        }
-    }
-    text.len()
+    text.iter()
+        .position(|byte| mark.is(*byte))
+        .unwrap_or(text.len())
 }
 
 // The texts between the marks; they borrow the whole.
@@ -66,12 +63,7 @@ pub fn pieces<'a>(heap: Global, text: &'a [u8], mark: Mark) -> Result<Vec<&'a [u
 pub fn words<'a>(heap: Global, line: &'a [u8]) -> Result<Vec<&'a [u8]>, AllocError>
     ensures { IfOk result (λ v. texts v.items ≡ words_in line.now) }
 {
-    let pieces = pieces(heap, line, Mark::Blank)?;
-    let mut words = Vec::new(heap);
-    for piece in pieces.iter() {
-        if !piece.is_empty() {
-            words.push(*piece)?;
-        }
-    }
+    let mut words = pieces(heap, line, Mark::Blank)?;
+    words.retain(|word| !word.is_empty());
     Ok(words)
 }

@@ -11,9 +11,9 @@ returns-then-says g c = ap Some c.new-list.ensures.items ∙ dash_list g.I.Item.
 pub returns-in_err-value : goal.returns-in_err-value
 returns-in_err-value g c =
     let none = no_item_says g.I.Item.said c.args.mark c.args.most c.args.word.now c.deref-item-items.result.now
-        (ap texts c.deref-item-items.ensures.value ∙ c.in_ok-pieces.ensures)
-        c.loop-item.item-index c.loop-item-test.true _ c.loop-item.invariant.0
-        (vec_items {X = g.row.I-Value.Denot} {Z = Global}) _ c.in_err-value.ensures (sym c.if-says.ensures) in
+    (ap texts c.deref-item-items.ensures.value ∙ c.in_ok-pieces.ensures)
+    c.loop-item.item-index c.loop-item-test.true _ c.loop-item.invariant.0
+    (vec_items {X = g.row.I-Value.Denot} {Z = Global}) _ c.in_err-value.ensures (sym c.if-says.ensures) in
     search (rules, none)
 
 pub returns-then-times-saturating_sub : goal.returns-then-times-saturating_sub
@@ -33,7 +33,7 @@ loop-item-preserved g c =
     let one = c.in_ok-value.value in
     let held = vec_items c.loop-item.list in
     let now : vec_items c.resize.new.self ≡ held ++ replicate many one =
-        grown _ held c.len.result many one (omega (arith, c.len.ensures, c.loop-item.list.ok.0)) (c.in_ok-resize.ensures.items ∙ cc) in (
+    grown _ held c.len.result many one (omega (arith, c.len.ensures, c.loop-item.list.ok.0)) (c.in_ok-resize.ensures.items ∙ cc) in (
       ap (λ l. after (Some l) (items_by g.I.Item.said (drop (c.loop-item.item-index + 1) (texts c.deref-item-items.result.now)))) now
           ∙ items_more g.I.Item.said c.args.mark c.args.most c.args.word.now c.deref-item-items.result.now
           (ap texts c.deref-item-items.ensures.value ∙ c.in_ok-pieces.ensures)

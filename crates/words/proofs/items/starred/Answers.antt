@@ -1,4 +1,4 @@
-use Rattle.std.proofs.Common.{◌<◌, length, take, Some, None, sym, ap, ◌∙◌, arith}
+use Rattle.std.proofs.Common.{◌<◌, length, Some, None, sym, ap, ◌∙◌, arith}
 use Rattle.std.specs.Option.{option_map}
 use Rattle.words.proofs.Saying.{item_whole, item_parts}
 use Rattle.words.proofs.items.starred.Goals as goal

@@ -1,4 +1,4 @@
-use Rattle.std.proofs.Common.{◌≡◌, ◌+◌, ◌*◌, [], ◌∷◌, length, Some, None, vec_items, sym, ap, ◌∙◌, inl, inr, arith, length-append, length-take, length-drop, rules}
+use Rattle.std.proofs.Common.{◌≡◌, Some, None, vec_items, sym, ap, ◌∙◌, inl, inr, arith, rules}
 use Rattle.words.proofs.Saying.{dash_bytes, empty_bytes, sized_bytes, no_byte, bytes_more, bytes_left, whole_bytes, refused, told}
 use Rattle.words.proofs.literal.bytes.Goals as goal
 use Rattle.words.proofs.literal.bytes.Goals.{then-is_empty-via-then-is_empty, then-is_empty-via-else-is_empty+then-word-ne0, then-is_empty-via-else-is_empty+else-word-ne0+then-word-gt-MAX_CELLS}

@@ -1,5 +1,5 @@
-use Rattle.std.proofs.Common.{None, sym, ap, ◌∙◌}
-use Rattle.words.specs.Words.{name_of, provided}
+use Rattle.std.proofs.Common.{ap}
+use Rattle.words.specs.Words.{provided}
 use Rattle.words.proofs.Saying.{no_name}
 use Rattle.words.proofs.literal.name.Goals as goal
 use Rattle.words.proofs.literal.name.Goals.{in_default-via-in-Ok+else-is_name, in_default-via-in_default}

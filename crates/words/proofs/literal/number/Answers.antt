@@ -1,4 +1,4 @@
-use Rattle.std.proofs.Common.{◌≡◌, ℕ, length, get_or, Some, None, IsUtf8, Option, sym, ap, ◌∙◌, subst}
+use Rattle.std.proofs.Common.{length, get_or, sym, ap, ◌∙◌}
 use Rattle.std.proofs.lemmas.Bool.{eqb-true, eqb-false}
 use Rattle.words.specs.Words.{number_of}
 use Rattle.words.proofs.Saying.{no_first, no_sign, no_text, text_none, text_some, parsed}

@@ -1,19 +1,13 @@
-use Rattle.std.proofs.Common.{not, sym, ap, arith}
-use Rattle.std.proofs.lemmas.List.Sums.{prefix_len-drop_yes, prefix_len-drop_no, prefix_len-drop_all}
+use Rattle.std.proofs.Common.{◌∙◌, arith, rules, tests}
+use Rattle.std.proofs.lemmas.Iterator.{YieldsList-from_slice}
+use Rattle.std.proofs.lemmas.Iterator.Search.{position_from_yields_List}
 use Rattle.words.specs.Cuts.{is_mark}
+use Rattle.words.proofs.Cutting.{place_within, or_end}
 use Rattle.words.proofs.split.reach.Goals as goal
-
-pub returns-then-is : goal.returns-then-is
-returns-then-is c =
-    let stop = prefix_len-drop_no (λ b. not (is_mark c.args.mark b)) c.args.text.now c.loop-place.place 0 c.loop-place-test.true (sym (ap not c.if-is.ensures)) in
-    record { answer = omega (arith, c.loop-place.invariant, stop); within = omega arith }
-
-pub loop-place-preserved : goal.loop-place-preserved
-loop-place-preserved c =
-    let on = prefix_len-drop_yes (λ b. not (is_mark c.args.mark b)) c.args.text.now c.loop-place.place 0 c.loop-place-test.true (sym (ap not c.if-is.ensures)) in
-    omega (arith, c.loop-place.invariant, on)
 
 pub returns : goal.returns
 returns c =
-    let end = prefix_len-drop_all (λ b. not (is_mark c.args.mark b)) c.args.text.now c.loop-place.place c.loop-place-test.false in
-    record { answer = omega (arith, c.loop-place.invariant, end); within = omega arith }
+    let found = position_from_yields_List (is_mark c.args.mark) _ _ c.position.result c.position.ensures.ran (YieldsList-from_slice c.args.text.now cc) (λ x b q k. search (rules, tests)) in
+    let within = place_within (is_mark c.args.mark) c.args.text.now in
+    let place = c.unwrap_or.ensures ∙ or_end _ _ _ within found in
+    record { answer = place; within = omega (arith, place, within) }
