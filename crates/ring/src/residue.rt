@@ -102,18 +102,12 @@ impl Coefficient for Residue {
     }
 
     fn read(bytes: &[u8]) -> Option<Residue> {
-        let number = number_of(bytes)?;
-        if number < MODULUS as u64 {
-            Some(Residue {
-                number: number as u32,
-            })
-        } else {
-            None
-        }
+        let number = u32::try_from(number_of(bytes)?).ok()?;
+        (number < MODULUS).then_some(Residue { number })
     }
 }
 
-// Equal where the values are.
+// Equal where the values are; by hand, since a derive would compare the numbers held, which may be above the modulus.
 impl PartialEq for Residue {
     ghost eq = { λ x y. (residue_value x).0 == (residue_value y).0 };
 
@@ -141,6 +135,7 @@ impl fmt::Display for Residue {
     }
 }
 
+// Written as by Display; by hand, since a derive would print the number held, which may be above the modulus.
 impl fmt::Debug for Residue {
     fn fmt<W: fmt::Write>(&self, f: &mut fmt::Formatter<W>) -> fmt::Result {
         let number = self.number();
