@@ -1,6 +1,10 @@
 // The faults of a layout.
-ghost use Rattle.std.specs.Prelude.{◌≡◌};
+ghost use Rattle.std.specs.Prelude.{◌≡◌, Some};
 ghost use Rattle.layout.specs.Faults.{fault_number};
+ghost use Rattle.layout.specs.Texts.{layout_fault_fields};
+
+use std::error::Error;
+use std::fmt;
 
 #[derive(Clone, Copy, Debug, PartialEq, Eq)]
 pub enum JaggedLayoutError {
@@ -65,3 +69,52 @@ impl JaggedLayoutError {
         }
     }
 }
+
+// The name and the fields.
+impl fmt::Display for JaggedLayoutError {
+    ghost output = { λ f. Some (layout_fault_fields f) };
+
+    fn fmt<W: fmt::Write>(&self, f: &mut fmt::Formatter<W>) -> fmt::Result {
+        match self {
+            JaggedLayoutError::NoColumns => write!(f, "NoColumns"),
+            JaggedLayoutError::ColumnCountNotPowerOfTwo { columns } => {
+                write!(f, "ColumnCountNotPowerOfTwo columns={columns}")
+            }
+            JaggedLayoutError::TooManyColumns { columns, maximum } => {
+                write!(f, "TooManyColumns columns={columns} maximum={maximum}")
+            }
+            JaggedLayoutError::RowVariablesOverflow { variables } => {
+                write!(f, "RowVariablesOverflow variables={variables}")
+            }
+            JaggedLayoutError::HeightExceedsRowBound {
+                column,
+                height,
+                maximum,
+            } => write!(
+                f,
+                "HeightExceedsRowBound column={column} height={height} maximum={maximum}"
+            ),
+            JaggedLayoutError::AreaOverflow { column } => {
+                write!(f, "AreaOverflow column={column}")
+            }
+            JaggedLayoutError::DenseAreaOverflow { area } => {
+                write!(f, "DenseAreaOverflow area={area}")
+            }
+            JaggedLayoutError::DenseVariablesOverflow { variables } => {
+                write!(f, "DenseVariablesOverflow variables={variables}")
+            }
+            JaggedLayoutError::BufferTooShort {
+                required,
+                available,
+            } => write!(
+                f,
+                "BufferTooShort required={required} available={available}"
+            ),
+            JaggedLayoutError::NoSuchColumn { column, columns } => {
+                write!(f, "NoSuchColumn column={column} columns={columns}")
+            }
+        }
+    }
+}
+
+impl Error for JaggedLayoutError {}

@@ -1,7 +1,8 @@
-use Rattle.std.proofs.Common.{◌≡◌, ◌+◌, ◌*◌, [], length, get_or, take, sym, refl, ap, ◌∙◌, arith}
+use Rattle.std.proofs.Common.{◌≡◌, ◌+◌, ◌*◌, [], length, get_or, take, sym, refl, ap, ◌∙◌, div-one, arith}
 use lib.Seq.{paste}
 use Rattle.std.specs.List.{flat_map}
 use Rattle.std.proofs.lemmas.List.Edits.{paste_none}
+use Rattle.std.proofs.lemmas.Slice.{put_mid-paste}
 use Rattle.std.proofs.lemmas.List.{length-take-le, take_all}
 use Rattle.ring.specs.Bytes.{eight}
 use Rattle.layout.proofs.Encodings.{paste_more, length_numbers, numbers_more}
@@ -18,7 +19,7 @@ loop-place-preserved c =
     let written = flat_map eight (take i ns) in
     let long : length written ≡ 8 * i = length_numbers (take i ns) ∙ ap (λ n. 8 * n) (length-take-le i ns (omega arith)) in
     let count : 8 * i + 8 ≡ 8 * (i + 1) = omega arith in
-    c.put_number.ensures
+    put_mid-paste _ _ c.loop-place.bytes c.copy_from_slice.new.self (eight (get_or ns i 0)) 8 (c.copy_from_slice.ensures.after ∙ rw (div-one (get_or ns i 0)) c.to_be_bytes.ensures) (omega arith) refl
     ∙ ap (λ b. paste b (c.args.at + 8 * i) (eight (get_or ns i 0)) 8) c.loop-place.invariant
     ∙ paste_more d written (eight (get_or ns i 0)) c.args.at (8 * i) 8 long refl (omega arith)
     ∙ ap (λ x. paste d c.args.at x (8 * i + 8)) (sym (numbers_more ns i c.loop-place-test.true))
