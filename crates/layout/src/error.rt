@@ -76,17 +76,17 @@ impl fmt::Display for JaggedLayoutError {
 
     fn fmt<W: fmt::Write>(&self, f: &mut fmt::Formatter<W>) -> fmt::Result {
         match self {
-            JaggedLayoutError::NoColumns => write!(f, "NoColumns"),
-            JaggedLayoutError::ColumnCountNotPowerOfTwo { columns } => {
+            Self::NoColumns => write!(f, "NoColumns"),
+            Self::ColumnCountNotPowerOfTwo { columns } => {
                 write!(f, "ColumnCountNotPowerOfTwo columns={columns}")
             }
-            JaggedLayoutError::TooManyColumns { columns, maximum } => {
+            Self::TooManyColumns { columns, maximum } => {
                 write!(f, "TooManyColumns columns={columns} maximum={maximum}")
             }
-            JaggedLayoutError::RowVariablesOverflow { variables } => {
+            Self::RowVariablesOverflow { variables } => {
                 write!(f, "RowVariablesOverflow variables={variables}")
             }
-            JaggedLayoutError::HeightExceedsRowBound {
+            Self::HeightExceedsRowBound {
                 column,
                 height,
                 maximum,
@@ -94,23 +94,19 @@ impl fmt::Display for JaggedLayoutError {
                 f,
                 "HeightExceedsRowBound column={column} height={height} maximum={maximum}"
             ),
-            JaggedLayoutError::AreaOverflow { column } => {
-                write!(f, "AreaOverflow column={column}")
-            }
-            JaggedLayoutError::DenseAreaOverflow { area } => {
-                write!(f, "DenseAreaOverflow area={area}")
-            }
-            JaggedLayoutError::DenseVariablesOverflow { variables } => {
+            Self::AreaOverflow { column } => write!(f, "AreaOverflow column={column}"),
+            Self::DenseAreaOverflow { area } => write!(f, "DenseAreaOverflow area={area}"),
+            Self::DenseVariablesOverflow { variables } => {
                 write!(f, "DenseVariablesOverflow variables={variables}")
             }
-            JaggedLayoutError::BufferTooShort {
+            Self::BufferTooShort {
                 required,
                 available,
             } => write!(
                 f,
                 "BufferTooShort required={required} available={available}"
             ),
-            JaggedLayoutError::NoSuchColumn { column, columns } => {
+            Self::NoSuchColumn { column, columns } => {
                 write!(f, "NoSuchColumn column={column} columns={columns}")
             }
         }

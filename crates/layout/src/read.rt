@@ -1,4 +1,6 @@
 // What a layout tells of itself.
+#![tactic(auto, using(crate::proofs::Shapes::read_off), unfolding(crate::specs::Layout::shape))]
+
 ghost use Rattle.std.specs.Prelude.{◌≡◌, ◌+◌, ◌^◌, [], ◌∷◌, Decides, nat_le};
 ghost use Rattle.std.specs.Int.Count.{count_trailing_zeros};
 ghost use Rattle.ring.specs.Checks.{verdict, when};
