@@ -51,7 +51,7 @@ pub enum JaggedLayoutError {
 }
 
 impl JaggedLayoutError {
-    // The number that the fault has in every record of a run.
+    // The number that the fault has in the C interface and in every record of a run.
     pub fn number(&self) -> u8
         ensures { result ≡ fault_number self.now }
     {

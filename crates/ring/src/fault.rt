@@ -13,7 +13,7 @@ pub enum RingError {
 }
 
 impl RingError {
-    // The number that the fault goes by.
+    // The number that the fault goes by, in the C interface and in the records of a run.
     pub fn number(&self) -> u8
         ensures { result ≡ ring_number self.now }
     {

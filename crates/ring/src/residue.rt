@@ -24,21 +24,14 @@ pub struct Residue {
     number: u32,
 }
 
-// The residue of a number.
-fn reduced(number: u64) -> Residue
-    ensures { residue_value result ≡ residue_of number }
-{
-    Residue {
-        number: (number % MODULUS as u64) as u32,
-    }
-}
-
 impl Residue {
     // The residue that a number leaves.
     pub fn new(number: u64) -> Residue
         ensures { residue_value result ≡ residue_of number }
     {
-        reduced(number)
+        Residue {
+            number: (number % MODULUS as u64) as u32,
+        }
     }
 
     // The canonical number, below the modulus.
@@ -65,16 +58,16 @@ impl Ring for Residue {
     }
 
     fn plus(self, other: Residue) -> Residue {
-        reduced(self.number as u64 + other.number as u64)
+        Residue::new(self.number as u64 + other.number as u64)
     }
 
     fn minus(self, other: Residue) -> Residue {
         // three times the modulus is above every number that a residue holds
-        reduced(self.number as u64 + (3 * MODULUS as u64 - other.number as u64))
+        Residue::new(self.number as u64 + (3 * MODULUS as u64 - other.number as u64))
     }
 
     fn times(self, other: Residue) -> Residue {
-        reduced(self.number as u64 * other.number as u64)
+        Residue::new(self.number as u64 * other.number as u64)
     }
 
     fn from_bool(set: bool) -> Residue {
@@ -82,6 +75,7 @@ impl Ring for Residue {
     }
 }
 
+// Each body is one call, as for words: one impl for both kinds would overlap with that for pairs.
 impl Coefficient for Residue {
     ghost width = { 8 };
 

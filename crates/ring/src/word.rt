@@ -73,6 +73,7 @@ impl Ring for Word {
     }
 }
 
+// Each body is one call, as for residues: one impl for both kinds would overlap with that for pairs.
 impl Coefficient for Word {
     ghost width = { 8 };
 
