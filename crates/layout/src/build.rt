@@ -140,8 +140,8 @@ fn dense_for(area: usize, minimum: usize) -> Result<usize, JaggedLayoutError>
     Ok(variables)
 }
 
-// Where each column starts, and where the last ends. The place is counted, since the library tells nothing of what a loop
-// over `iter_mut` beside `zip` wrote.
+// Where each column starts, and where the last ends.
+// The place is counted, since the library tells nothing of what a loop over `iter_mut` beside `zip` wrote.
 fn boundaries_of(heights: &[usize]) -> [usize; MAX_BOUNDARIES]
     requires few { length heights.now ≤ max_columns }
     requires fits { sum heights.now < 2 ^ 64 }

@@ -33,8 +33,8 @@ impl JaggedLayout {
     }
 }
 
-// Writes numbers one after the other, each to eight bytes, the most significant first. The place is counted, since the
-// library tells nothing of a slice's bytes once a loop over its chunks is over.
+// Writes numbers one after the other, each to eight bytes, the most significant first.
+// The place is counted, since the library tells nothing of a slice's bytes once a loop over its chunks is over.
 fn put_numbers(bytes: &mut [u8], at: usize, numbers: &[usize])
     requires { at + 8 * length numbers.now ≤ length bytes.old }
     ensures { bytes.new ≡ paste bytes.old at (flat_map eight numbers.now) (8 * length numbers.now) }
