@@ -1,5 +1,5 @@
 -- Records as six numbers. Assumes nothing.
-use Rattle.std.specs.Prelude.{ℕ, cond, ◌==◌}
+use Rattle.std.specs.Prelude.{cond, ◌==◌}
 use Rattle.ingest.specs.declared.record.Record.{Record}
 use Rattle.ingest.specs.declared.record.Record.TheVariants.{Dense, Interleaved, Bits, Chunked}
 use Rattle.export.specs.declared.entry.Entry.{Entry}
