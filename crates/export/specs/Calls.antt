@@ -1,4 +1,4 @@
--- Layouts that are asked for by numbers. Assumes nothing.
+-- Layouts that are asked for by numbers, and what is answered over them. Assumes nothing.
 use Rattle.std.specs.Prelude.{◌≡◌, ℕ, List, Ok, Err, Result}
 use Rattle.ring.specs.Checks.{verdict}
 use Rattle.layout.specs.declared.error.JaggedLayoutError.{JaggedLayoutError}
@@ -6,6 +6,10 @@ use Rattle.layout.specs.declared.geometry.JaggedLayout.{JaggedLayout}
 use Rattle.layout.specs.Layout.{shape}
 use Rattle.layout.specs.Plan.{checks, planned}
 use Rattle.layout.specs.Shape.{Shape}
+use Rattle.selector.specs.Faults.{table_checks}
+use Rattle.export.specs.declared.refusal.Refusal.{Refusal}
+use Rattle.export.specs.declared.refusal.Refusal.TheVariants.{Layout, Selector}
+use Rattle.export.specs.Refusals.{refused}
 
 -- whether a layout of these heights is accepted
 abbrev pub laid : ℕ → List ℕ → Result Shape JaggedLayoutError
@@ -15,3 +19,12 @@ laid rows heights = verdict (checks rows heights 0) (planned rows heights 0)
 abbrev pub Made : ℕ → List ℕ → Result JaggedLayout JaggedLayoutError → Type 0
 Made rows heights (Ok l) = laid rows heights ≡ Ok (shape l)
 Made rows heights (Err e) = laid rows heights ≡ Err e
+
+-- the fault of a layout that is refused, or else what a call answers at its shape
+abbrev pub over_layout : {T : Type 0} → Result Shape JaggedLayoutError → (Shape → Result T Refusal) → Result T Refusal
+over_layout (Ok S) answer = answer S
+over_layout (Err e) answer = Err (Layout e)
+
+-- what the selector's table answers, by the widths of the point and the room
+abbrev pub table_answer : ℕ → List ℕ → ℕ → ℕ → ℕ → Result (Unit {0}) Refusal
+table_answer rows heights row column cells = over_layout (laid rows heights) (λ S. refused Selector (verdict (table_checks S row column cells) tt))

@@ -16,3 +16,8 @@ refusal_number (Selector e) = selecting.fault_number e
 abbrev pub told : {T : Type 0} → Result T Refusal → ℕ
 told (Ok x) = 0
 told (Err r) = refusal_number r
+
+-- a layer's result, its fault as a refusal
+abbrev pub refused : {T F : Type 0} → (F → Refusal) → Result T F → Result T Refusal
+refused kind (Ok x) = Ok x
+refused kind (Err e) = Err (kind e)

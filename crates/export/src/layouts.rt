@@ -1,4 +1,7 @@
 // Layouts of heights, and their bytes.
+ghost use Rattle.std.specs.Prelude.{◌≡◌, IfOk};
+ghost use Rattle.layout.specs.Layout.{shape};
+ghost use Rattle.layout.specs.Plan.{planned};
 ghost use Rattle.export.specs.Calls.{Made};
 
 use crate::refusal::{Refusal, told};
@@ -9,7 +12,8 @@ pub(crate) fn layout_of(
     row_variables: usize,
     heights: &[usize],
 ) -> Result<JaggedLayout, JaggedLayoutError>
-    ensures { Made row_variables heights.now result }
+    ensures made { Made row_variables heights.now result }
+    ensures shape { IfOk result (λ l. shape l ≡ planned row_variables heights.now 0) }
 {
     let mut layout = JaggedLayout::empty();
     layout.new(row_variables, heights)?;

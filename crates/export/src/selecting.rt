@@ -1,8 +1,12 @@
 // The weights of a point, the selector's table, and its values at dense points.
-ghost use Rattle.std.specs.Prelude.{◌≡◌, ℕ, ◌<◌, map, length, drop, slice_index_or};
+ghost use Rattle.std.specs.Prelude.{◌≡◌, ℕ, ◌<◌, map, length, drop, slice_index_or, MatchResult};
 ghost use Rattle.ring.specs.Kinds.{words, word_value, residues, residue_value};
+ghost use Rattle.layout.specs.Plan.{planned};
 ghost use Rattle.selector.specs.Prefix.{weight_count};
+ghost use Rattle.selector.specs.Selector.{Table};
 ghost use Rattle.selector.specs.Weights.{eq};
+ghost use Rattle.export.specs.Calls.{table_answer};
+ghost use Rattle.export.specs.Refusals.{told};
 
 use crate::layouts::layout_of;
 use crate::refusal::{Refusal, told};
@@ -34,7 +38,10 @@ fn table_of<R: Ring>(
     heights: &[usize],
     point: &JaggedPoint<'_, R>,
     buffer: &mut [R],
-) -> Result<(), Refusal> {
+) -> Result<(), Refusal>
+    ensures answer { result ≡ table_answer row_variables heights.now (length point.now.row.now) (length point.now.column.now) (length buffer.old) }
+    ensures cells { MatchResult result (λ _. Table R.Ring.ops (planned row_variables heights.now 0) (map R.Ring.value point.now.row.now) (map R.Ring.value point.now.column.now) (map R.Ring.value buffer.new)) (λ _. buffer.new ≡ buffer.old) }
+{
     let layout = layout_of(row_variables, heights)?;
     table(&layout, point, buffer)?;
     Ok(())
@@ -47,7 +54,10 @@ pub extern "C" fn mossplane_table_words(
     row: &[Word],
     column: &[Word],
     buffer: &mut [Word],
-) -> u8 {
+) -> u8
+    ensures number { result ≡ told (table_answer row_variables heights.now (length row.now) (length column.now) (length buffer.old)) }
+    ensures cells { MatchResult (table_answer row_variables heights.now (length row.now) (length column.now) (length buffer.old)) (λ _. Table words (planned row_variables heights.now 0) (map word_value row.now) (map word_value column.now) (map word_value buffer.new)) (λ _. buffer.new ≡ buffer.old) }
+{
     told(table_of(
         row_variables,
         heights,
@@ -63,7 +73,10 @@ pub extern "C" fn mossplane_table_residues(
     row: &[Residue],
     column: &[Residue],
     buffer: &mut [Residue],
-) -> u8 {
+) -> u8
+    ensures number { result ≡ told (table_answer row_variables heights.now (length row.now) (length column.now) (length buffer.old)) }
+    ensures cells { MatchResult (table_answer row_variables heights.now (length row.now) (length column.now) (length buffer.old)) (λ _. Table residues (planned row_variables heights.now 0) (map residue_value row.now) (map residue_value column.now) (map residue_value buffer.new)) (λ _. buffer.new ≡ buffer.old) }
+{
     told(table_of(
         row_variables,
         heights,
