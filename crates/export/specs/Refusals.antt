@@ -21,3 +21,8 @@ told (Err r) = refusal_number r
 abbrev pub refused : {T F : Type 0} → (F → Refusal) → Result T F → Result T Refusal
 refused kind (Ok x) = Ok x
 refused kind (Err e) = Err (kind e)
+
+-- what the caller of a count is told: 0 if the call is refused
+abbrev pub counted : Result ℕ Refusal → ℕ
+counted (Ok n) = n
+counted (Err r) = 0

@@ -1,6 +1,6 @@
 // Records as C passes them: six numbers each.
-ghost use Rattle.std.specs.Prelude.{◌≡◌, ◌≤◌, length};
-ghost use Rattle.export.specs.Entries.{record_of};
+ghost use Rattle.std.specs.Prelude.{◌≡◌, ◌≤◌, length, take};
+ghost use Rattle.export.specs.Entries.{record_of, table_of};
 
 use ingest::{MAX_RECORDS, Record};
 
@@ -65,18 +65,20 @@ pub(crate) struct Records {
 }
 
 impl Records {
-    pub(crate) fn of(entries: &[Entry]) -> Records {
+    pub(crate) fn of(entries: &[Entry]) -> Records
+        ensures { take result.count result.records ≡ table_of entries.now }
+    {
+        let count = entries.len().min(MAX_ENTRIES);
         let mut records = [Record::Chunked { from: 0, count: 0 }; MAX_ENTRIES];
-        for (record, entry) in records.iter_mut().zip(entries) {
-            *record = Record::from(*entry);
+        for (place, entry) in entries[..count].iter().enumerate() {
+            records[place] = Record::from(*entry);
         }
-        Records {
-            records,
-            count: entries.len().min(MAX_ENTRIES),
-        }
+        Records { records, count }
     }
 
-    pub(crate) fn as_slice(&self) -> &[Record] {
+    pub(crate) fn as_slice(&self) -> &[Record]
+        ensures { result.now ≡ take self.now.count self.now.records }
+    {
         &self.records[..self.count]
     }
 }

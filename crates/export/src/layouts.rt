@@ -1,8 +1,9 @@
 // Layouts of heights, and their bytes.
-ghost use Rattle.std.specs.Prelude.{◌≡◌, IfOk};
+ghost use Rattle.std.specs.Prelude.{◌≡◌, length, IfOk};
 ghost use Rattle.layout.specs.Layout.{shape};
 ghost use Rattle.layout.specs.Plan.{planned};
-ghost use Rattle.export.specs.Calls.{Made};
+ghost use Rattle.export.specs.Calls.{Made, encode_answer};
+ghost use Rattle.export.specs.Refusals.{counted};
 
 use crate::refusal::{Refusal, told};
 use layout::{JaggedLayout, JaggedLayoutError};
@@ -56,13 +57,15 @@ fn encode_rounds(
     heights: &[usize],
     rounds: usize,
     bytes: &mut [u8],
-) -> Result<usize, JaggedLayoutError> {
+) -> Result<usize, Refusal>
+    ensures { result ≡ encode_answer row_variables heights.now rounds (length bytes.old) }
+{
     let layout = layout_of(row_variables, heights)?;
-    let mut taken = 0;
-    for _ in 0..rounds {
-        taken = layout.encode_layout(bytes)?;
+    let mut outcome = Ok(0);
+    for round in 0..rounds {
+        outcome = layout.encode_layout(bytes);
     }
-    Ok(taken)
+    Ok(outcome?)
 }
 
 // Writes the layout to the bytes, over and over as often as said; how many bytes it took, or 0 if it is refused.
@@ -72,7 +75,9 @@ pub extern "C" fn mossplane_encode(
     heights: &[usize],
     rounds: usize,
     bytes: &mut [u8],
-) -> usize {
+) -> usize
+    ensures { result ≡ counted (encode_answer row_variables heights.now rounds (length bytes.old)) }
+{
     // The C interface has one number for the count and a refusal.
     encode_rounds(row_variables, heights, rounds, bytes).unwrap_or(0)
 }

@@ -1,4 +1,9 @@
 // Tables of records: their check, and their reading.
+ghost use Rattle.std.specs.Prelude.{◌≡◌, length};
+ghost use Rattle.export.specs.Calls.{read_answer};
+ghost use Rattle.export.specs.Entries.{table_of};
+ghost use Rattle.export.specs.Refusals.{told};
+
 use crate::entry::{Entry, Records};
 use crate::layouts::layout_of;
 use crate::refusal::{Refusal, told};
@@ -23,13 +28,19 @@ fn read_rounds<R: Ring>(
     words: &[u64],
     rounds: usize,
     buffer: &mut [R],
-) -> Result<(), Refusal> {
+) -> Result<(), Refusal>
+    ensures { result ≡ read_answer row_variables heights.now (table_of entries.now) (length cells.now) (length words.now) rounds (length buffer.old) }
+{
     let layout = layout_of(row_variables, heights)?;
     let records = Records::of(entries);
     let table = records.as_slice();
-    for _ in 0..rounds {
-        read_columns(&layout, table, heights.len(), cells, words, buffer)?;
+    let mut outcome = Ok(());
+    // Each round reads anew, also after a refusal: the rounds are there to be timed.
+    for round in 0..rounds {
+        let read = read_columns(&layout, table, heights.len(), cells, words, buffer);
+        outcome = read.map(|_| ());
     }
+    outcome?;
     Ok(())
 }
 
@@ -43,7 +54,9 @@ pub extern "C" fn mossplane_read_words(
     words: &[u64],
     rounds: usize,
     buffer: &mut [Word],
-) -> u8 {
+) -> u8
+    ensures { result ≡ told (read_answer row_variables heights.now (table_of entries.now) (length cells.now) (length words.now) rounds (length buffer.old)) }
+{
     told(read_rounds(
         row_variables,
         heights,
@@ -64,7 +77,9 @@ pub extern "C" fn mossplane_read_residues(
     words: &[u64],
     rounds: usize,
     buffer: &mut [Residue],
-) -> u8 {
+) -> u8
+    ensures { result ≡ told (read_answer row_variables heights.now (table_of entries.now) (length cells.now) (length words.now) rounds (length buffer.old)) }
+{
     told(read_rounds(
         row_variables,
         heights,
