@@ -9,6 +9,7 @@ use crate::refusal::{Refusal, told};
 use layout::{JaggedLayout, JaggedLayoutError};
 
 // The layout of these heights, or its fault.
+// A struct of the two would be made in each exported call, which C passes them one by one, and taken apart here.
 pub(crate) fn layout_of(
     row_variables: usize,
     heights: &[usize],
