@@ -89,7 +89,7 @@ pub extern "C" fn mossplane_table_residues(
 fn values_of<R: Ring>(
     row_variables: usize,
     heights: &[usize],
-    point: &JaggedPoint<'_, R>,
+    point: JaggedPoint<'_, R>,
     dense: &[R],
     values: &mut [R],
 ) -> Result<(), Refusal> {
@@ -99,7 +99,7 @@ fn values_of<R: Ring>(
         let Some(place) = rest.split_off(..layout.dense_variables()) else {
             break;
         };
-        *value = evaluate(&layout, point, place)?;
+        *value = evaluate(&layout, &point, place)?;
     }
     Ok(())
 }
@@ -116,7 +116,7 @@ pub extern "C" fn mossplane_values_words(
     told(values_of(
         row_variables,
         heights,
-        &JaggedPoint::new(row, column),
+        JaggedPoint::new(row, column),
         dense,
         values,
     ))
@@ -134,7 +134,7 @@ pub extern "C" fn mossplane_values_residues(
     told(values_of(
         row_variables,
         heights,
-        &JaggedPoint::new(row, column),
+        JaggedPoint::new(row, column),
         dense,
         values,
     ))
