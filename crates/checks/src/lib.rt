@@ -5,6 +5,8 @@ ghost use Rattle.std.specs.Prelude.{◌≡◌};
 ghost use Rattle.checks.specs.Traces.{Traces};
 
 #[cfg(test)]
+mod laid;
+#[cfg(test)]
 mod ring_kinds;
 #[cfg(test)]
 mod selector_values;

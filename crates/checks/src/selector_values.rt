@@ -1,16 +1,17 @@
 // Worked values at each ring kind, the known traps, and each refusal.
+ghost use Rattle.std.specs.Prelude.{◌*◌, ◌^◌, ◌<◌};
+ghost use Rattle.std.specs.Mem.{type_size};
+
+use crate::laid::laid;
 use layout::JaggedLayout;
 use ring::{Pair, Residue, Ring, Word};
 use selector::{JaggedError, JaggedPoint, equality_prefix, evaluate, table};
+use std::process::Abort;
 use std::test::Fail;
 
 // One added so many times.
 fn number<R: Ring>(n: u32) -> R {
-    let mut sum = R::zero();
-    for _ in 0..n {
-        sum = sum.plus(R::one());
-    }
-    sum
+    (0..n).fold(R::zero(), |sum, _| sum.plus(R::one()))
 }
 
 fn minus<R: Ring>(n: u32) -> R {
@@ -18,60 +19,56 @@ fn minus<R: Ring>(n: u32) -> R {
 }
 
 // Heights 2 and 1 with one row variable, at row (3) and column (5), then at the dense point (7, 2).
-macro_rules! worked {
-    ($rt:ident, $kind:ty) => {{
-        let mut layout = JaggedLayout::empty();
-        layout.new(1, &[2, 1])?;
-        let row: [$kind; 1] = [number(3)];
-        let column: [$kind; 1] = [number(5)];
-        let point = JaggedPoint::new(&row, &column);
-        let mut cells: [$kind; 5] = [number(9); 5];
-        table(&layout, &point, &mut cells)?;
-        assert!($rt; cells[0] == number(8) && cells[1] == minus(12) && cells[2] == minus(10));
-        assert!($rt; cells[3] == number(0) && cells[4] == number(9));
-        let dense: [$kind; 2] = [number(7), number(2)];
-        assert!($rt; evaluate(&layout, &point, &dense)? == number(262));
-    }};
+fn worked<R: Ring + PartialEq>(rt: &impl Abort) -> Result<(), Fail>
+    requires { 5 * type_size R.row < 2 ^ 63 }
+{
+    let layout = laid(1, &[2, 1])?;
+    let row: [R; 1] = [number(3)];
+    let column: [R; 1] = [number(5)];
+    let point = JaggedPoint::new(&row, &column);
+    let mut cells: [R; 5] = [number(9); 5];
+    table(&layout, &point, &mut cells)?;
+    let written: [R; 5] = [number(8), minus(12), minus(10), number(0), number(9)];
+    assert!(rt; cells == written);
+    let dense: [R; 2] = [number(7), number(2)];
+    assert!(rt; evaluate(&layout, &point, &dense)? == number(262));
+    Ok(())
 }
 
 // A corner of the cube selects one cell: the last row of a column that ends at the capacity.
-macro_rules! corner {
-    ($rt:ident, $kind:ty) => {{
-        let mut layout = JaggedLayout::empty();
-        layout.new(2, &[1, 3])?;
-        let row: [$kind; 2] = [number(1), number(0)];
-        let column: [$kind; 1] = [number(1)];
-        let dense: [$kind; 2] = [number(1), number(1)];
-        assert!($rt; evaluate(&layout, &JaggedPoint::new(&row, &column), &dense)? == number(1));
-    }};
+fn corner<R: Ring + PartialEq>(rt: &impl Abort) -> Result<(), Fail>
+    requires { 2 * type_size R.row < 2 ^ 63 }
+{
+    let layout = laid(2, &[1, 3])?;
+    let row: [R; 2] = [number(1), number(0)];
+    let column: [R; 1] = [number(1)];
+    let dense: [R; 2] = [number(1), number(1)];
+    assert!(rt; evaluate(&layout, &JaggedPoint::new(&row, &column), &dense)? == number(1));
+    Ok(())
 }
 
 #[test]
 fn residues(rt: HostRuntime) -> Result<(), Fail> {
-    worked!(rt, Residue);
-    corner!(rt, Residue);
-    Ok(())
+    worked::<Residue>(&rt)?;
+    corner::<Residue>(&rt)
 }
 
 #[test]
 fn words(rt: HostRuntime) -> Result<(), Fail> {
-    worked!(rt, Word);
-    corner!(rt, Word);
-    Ok(())
+    worked::<Word>(&rt)?;
+    corner::<Word>(&rt)
 }
 
 #[test]
 fn pairs(rt: HostRuntime) -> Result<(), Fail> {
-    worked!(rt, Pair<Residue>);
-    corner!(rt, Pair<Residue>);
-    Ok(())
+    worked::<Pair<Residue>>(&rt)?;
+    corner::<Pair<Residue>>(&rt)
 }
 
 #[test]
 fn pairs_of_pairs(rt: HostRuntime) -> Result<(), Fail> {
-    worked!(rt, Pair<Pair<Word>>);
-    corner!(rt, Pair<Pair<Word>>);
-    Ok(())
+    worked::<Pair<Pair<Word>>>(&rt)?;
+    corner::<Pair<Pair<Word>>>(&rt)
 }
 
 // One empty column and no variables at all.
@@ -89,8 +86,7 @@ fn nothing(rt: HostRuntime) -> Result<(), Fail> {
 
 #[test]
 fn refusals(rt: HostRuntime) -> Result<(), Fail> {
-    let mut layout = JaggedLayout::empty();
-    layout.new(1, &[2, 1])?;
+    let layout = laid(1, &[2, 1])?;
     let one: [Residue; 2] = [Residue::one(); 2];
     let mut cells: [Residue; 3] = [Residue::new(6); 3];
     let wide = JaggedPoint::new(&one, &one[0..1]);

@@ -1,17 +1,16 @@
 // Tables and memory that are refused, and rows that are nested deep or read twice.
+use crate::laid::laid;
 use crate::table_reading::{bits, chunk, dense, strided};
 use ingest::{
     ConversionPass, JaggedIngestError, MAX_RECORDS, Record, height, heights, pass, read_columns,
     read_committed, witness_of_buffer, witness_of_vector, write_piece,
 };
-use layout::JaggedLayout;
 use ring::Word;
 use std::test::Fail;
 
 // What two columns of heights 2 and 1 are refused for, over 4 cells, 1 word and a buffer of 4 cells.
 fn fault(first: Record, second: Record) -> Result<Option<JaggedIngestError>, Fail> {
-    let mut layout = JaggedLayout::empty();
-    layout.new(1, &[2, 1])?;
+    let layout = laid(1, &[2, 1])?;
     let cells = [Word::new(7); 4];
     let mut buffer = [Word::new(9); 4];
     Ok(read_columns(&layout, &[first, second], 2, &cells, &[5], &mut buffer).err())
@@ -20,8 +19,8 @@ fn fault(first: Record, second: Record) -> Result<Option<JaggedIngestError>, Fai
 // A chain of chunks of one part each, and a leaf of two rows at its end.
 fn chain() -> [Record; MAX_RECORDS] {
     let mut table = [dense(1, 2); MAX_RECORDS];
-    for record in 0..MAX_RECORDS - 1 {
-        table[record] = chunk(record + 1, 1);
+    for (record, next) in table.iter_mut().zip(1..MAX_RECORDS) {
+        *record = chunk(next, 1);
     }
     table
 }
@@ -73,8 +72,7 @@ fn refuses_columns(rt: HostRuntime) -> Result<(), Fail> {
 
 #[test]
 fn refuses_memory(rt: HostRuntime) -> Result<(), Fail> {
-    let mut layout = JaggedLayout::empty();
-    layout.new(1, &[2, 1])?;
+    let layout = laid(1, &[2, 1])?;
     let table = [dense(0, 2), dense(3, 1)];
     let cells = [Word::new(7); 4];
     let mut buffer = [Word::new(9); 3];
@@ -119,15 +117,13 @@ fn refuses_memory(rt: HostRuntime) -> Result<(), Fail> {
             columns: 2,
         })
     );
-    for cell in buffer.iter() {
-        assert_eq!(rt; cell.number(), 9);
-    }
+    assert!(rt; buffer.map(Word::number) == [9; 3]);
     Ok(())
 }
 
 #[test]
 fn nests(rt: HostRuntime) {
-    let cells = [Word::new(11), Word::new(12), Word::new(13), Word::new(14)];
+    let cells = [11, 12, 13, 14].map(Word::new);
     let mut out = [Word::new(9); 4];
     let deep = chain();
     assert_eq!(rt; height(&deep, 1, 0), Ok(2));
@@ -143,12 +139,8 @@ fn nests(rt: HostRuntime) {
         dense(3, 1),
     ];
     assert_eq!(rt; write_piece(&cut, 0, &cells, &[], &mut out), Ok(4));
-    for (place, cell) in out.iter().enumerate() {
-        assert_eq!(rt; cell.number(), 11 + place as u64);
-    }
+    assert!(rt; out.map(Word::number) == [11, 12, 13, 14]);
     let twice = [chunk(1, 2), dense(1, 2), strided(4, 0, 2, 2)];
     assert_eq!(rt; write_piece(&twice, 0, &cells, &[], &mut out), Ok(4));
-    for (place, number) in [12, 13, 11, 13].iter().enumerate() {
-        assert_eq!(rt; out[place].number(), *number);
-    }
+    assert!(rt; out.map(Word::number) == [12, 13, 11, 13]);
 }

@@ -1,9 +1,9 @@
 // Tables that are asked and read, and what is answered.
+use crate::laid::laid;
 use ingest::{
     ConversionPass, JaggedIngestError, Record, check_order, height, heights, pass, piece_height,
     read_columns, read_committed, witness_of_buffer, witness_of_vector, write_piece,
 };
-use layout::JaggedLayout;
 use ring::Word;
 use std::test::Fail;
 
@@ -37,14 +37,12 @@ fn wrong(record: usize) -> Result<(), JaggedIngestError> {
     Err(JaggedIngestError::TableOutOfOrder { record })
 }
 
-// The number of the fault of a piece over 4 cells and 1 word, or 0.
-fn fault(entry: Record) -> u8 {
+// The number of the fault of a piece over 4 cells and 1 word.
+fn fault(entry: Record) -> Option<u8> {
     let cells = [Word::new(7); 4];
     let mut out = [Word::new(0); 4];
-    match write_piece(&[entry], 0, &cells, &[5], &mut out) {
-        Ok(_) => 0,
-        Err(fault) => fault.number(),
-    }
+    let outcome = write_piece(&[entry], 0, &cells, &[5], &mut out);
+    outcome.err().map(|fault| fault.number())
 }
 
 #[test]
@@ -105,14 +103,14 @@ fn asks(rt: HostRuntime) {
 
 #[test]
 fn leaves(rt: HostRuntime) {
-    assert_eq!(rt; fault(dense(5, 0)), 16);
-    assert_eq!(rt; fault(dense(4, 0)), 0);
-    assert_eq!(rt; fault(strided(4, 0, 0, 1)), 12);
-    assert_eq!(rt; fault(strided(4, 9, 0, 0)), 0);
-    assert_eq!(rt; fault(strided(4, 4, 1, 1)), 13);
-    assert_eq!(rt; fault(strided(5, 0, 1, 0)), 16);
-    assert_eq!(rt; fault(bits(0, 1, 65)), 14);
-    assert_eq!(rt; fault(bits(0, 2, 1)), 16);
+    assert_eq!(rt; fault(dense(5, 0)), Some(16));
+    assert_eq!(rt; fault(dense(4, 0)), None);
+    assert_eq!(rt; fault(strided(4, 0, 0, 1)), Some(12));
+    assert_eq!(rt; fault(strided(4, 9, 0, 0)), None);
+    assert_eq!(rt; fault(strided(4, 4, 1, 1)), Some(13));
+    assert_eq!(rt; fault(strided(5, 0, 1, 0)), Some(16));
+    assert_eq!(rt; fault(bits(0, 1, 65)), Some(14));
+    assert_eq!(rt; fault(bits(0, 2, 1)), Some(16));
     let cells = [Word::new(7); 4];
     let mut out = [Word::new(0); 4];
     assert_eq!(rt;
@@ -127,16 +125,8 @@ fn leaves(rt: HostRuntime) {
 
 #[test]
 fn reads(rt: HostRuntime) -> Result<(), Fail> {
-    let mut layout = JaggedLayout::empty();
-    layout.new(3, &[5, 2])?;
-    let cells = [
-        Word::new(11),
-        Word::new(12),
-        Word::new(13),
-        Word::new(14),
-        Word::new(15),
-        Word::new(16),
-    ];
+    let layout = laid(3, &[5, 2])?;
+    let cells = [11, 12, 13, 14, 15, 16].map(Word::new);
     let gathered = Record::Interleaved {
         place: 2,
         length: 4,
@@ -147,9 +137,7 @@ fn reads(rt: HostRuntime) -> Result<(), Fail> {
     let table = [chunk(2, 2), gathered, dense(1, 2), bits(0, 1, 3)];
     let mut buffer = [Word::new(99); 9];
     let report = read_columns(&layout, &table, 2, &cells, &[5], &mut buffer)?;
-    for (place, number) in [12, 13, 1, 0, 1, 13, 16, 0, 99].iter().enumerate() {
-        assert_eq!(rt; buffer[place].number(), *number);
-    }
+    assert!(rt; buffer.map(Word::number) == [12, 13, 1, 0, 1, 13, 16, 0, 99]);
     assert_eq!(rt; report.charged(ConversionPass::Gathered), 2);
     assert_eq!(rt; report.charged(ConversionPass::Widened), 5);
     assert_eq!(rt; report.envelope(), 1);

@@ -1,13 +1,14 @@
 // Records as C passes them: six numbers each.
-ghost use Rattle.std.specs.Prelude.{◌≡◌};
-ghost use Rattle.export.specs.Entries.{record_of};
+ghost use Rattle.std.specs.Prelude.{◌≡◌, ◌≤◌, length, take};
+ghost use Rattle.export.specs.Entries.{record_of, table_of};
 
 use ingest::{MAX_RECORDS, Record};
 
 // One record more than a table may have, so that a longer table is refused as one.
-pub(crate) const MAX_ENTRIES: usize = MAX_RECORDS + 1;
+const MAX_ENTRIES: usize = MAX_RECORDS + 1;
 
 // A record: its kind is 0 for dense, 1 for interleaved, 2 for bits, and chunked for any other.
+// The kind is a number since the C interface has no enums with fields.
 #[repr(C)]
 #[derive(Clone, Copy)]
 pub struct Entry {
@@ -22,40 +23,62 @@ pub struct Entry {
     pub height: usize,
 }
 
-impl Entry {
-    pub(crate) fn record(self) -> Record
-        ensures { result ≡ record_of self }
+impl From<Entry> for Record {
+    ghost from_gives = { λ e r. r ≡ record_of e };
+
+    fn from(entry: Entry) -> Record
+        ensures { result ≡ record_of entry }
     {
-        match self.kind {
+        match entry.kind {
             0 => Record::Dense {
-                place: self.place,
-                height: self.height,
+                place: entry.place,
+                height: entry.height,
             },
             1 => Record::Interleaved {
-                place: self.place,
-                length: self.length,
-                first: self.first,
-                stride: self.stride,
-                height: self.height,
+                place: entry.place,
+                length: entry.length,
+                first: entry.first,
+                stride: entry.stride,
+                height: entry.height,
             },
             2 => Record::Bits {
-                place: self.place,
-                words: self.length,
-                height: self.height,
+                place: entry.place,
+                words: entry.length,
+                height: entry.height,
             },
             _ => Record::Chunked {
-                from: self.place,
-                count: self.height,
+                from: entry.place,
+                count: entry.height,
             },
         }
     }
 }
 
-// The records of the entries, as many as a table can have and one more.
-pub(crate) fn records_of(entries: &[Entry]) -> [Record; MAX_ENTRIES] {
-    let mut records = [Record::Chunked { from: 0, count: 0 }; MAX_ENTRIES];
-    for k in 0..entries.len().min(MAX_ENTRIES) {
-        records[k] = entries[k].record();
+// The records of a call's entries, as many as a table can have and one more.
+// An array with a count, since the library has no heap: the records past the count are none of the table's.
+#[derive(Drop)]
+pub(crate) struct Records {
+    records: [Record; MAX_ENTRIES],
+    count: usize,
+    ghost few: { count ≤ 4097 },
+    ghost long: { length records ≡ 4097 },
+}
+
+impl Records {
+    pub(crate) fn of(entries: &[Entry]) -> Records
+        ensures { take result.count result.records ≡ table_of entries.now }
+    {
+        let count = entries.len().min(MAX_ENTRIES);
+        let mut records = [Record::Chunked { from: 0, count: 0 }; MAX_ENTRIES];
+        for (place, entry) in entries[..count].iter().enumerate() {
+            records[place] = Record::from(*entry);
+        }
+        Records { records, count }
     }
-    records
+
+    pub(crate) fn as_slice(&self) -> &[Record]
+        ensures { result.now ≡ take self.now.count self.now.records }
+    {
+        &self.records[..self.count]
+    }
 }

@@ -5,4 +5,5 @@ mod elements;
 mod entry;
 mod layouts;
 mod reading;
+mod refusal;
 mod selecting;

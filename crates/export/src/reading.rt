@@ -1,43 +1,50 @@
 // Tables of records: their check, and their reading.
-use crate::entry::{Entry, MAX_ENTRIES, records_of};
+ghost use Rattle.std.specs.Prelude.{◌≡◌, length};
+ghost use Rattle.export.specs.Calls.{read_answer};
+ghost use Rattle.export.specs.Entries.{table_of};
+ghost use Rattle.export.specs.Refusals.{told};
+
+use crate::entry::{Entry, Records};
 use crate::layouts::layout_of;
-use ingest::{Record, check_order, read_columns};
-use layout::JaggedLayout;
+use crate::refusal::{Refusal, told};
+use ingest::{check_order, read_columns};
 use ring::{Residue, Ring, Word};
 
 // Checks the table against each of these numbers of sources, and writes the fault's number, or 0.
 #[unsafe(no_mangle)]
 pub extern "C" fn mossplane_check(entries: &[Entry], sources: &[usize], faults: &mut [u8]) {
-    let records = records_of(entries);
-    let count = entries.len().min(MAX_ENTRIES);
-    for k in 0..sources.len().min(faults.len()) {
-        faults[k] = match check_order(&records[0..count], sources[k]) {
-            Ok(_) => 0,
-            Err(fault) => fault.number(),
-        };
+    let records = Records::of(entries);
+    for (fault, count) in faults.iter_mut().zip(sources) {
+        *fault = told(check_order(records.as_slice(), *count).map_err(Refusal::Ingest));
     }
 }
 
-// Reads the columns of a table, over and over as often as said; the number of the last fault, or 0.
+// Reads the columns of a table, over and over as often as said.
 fn read_rounds<R: Ring>(
-    layout: &JaggedLayout,
-    table: &[Record],
-    sources: usize,
+    row_variables: usize,
+    heights: &[usize],
+    entries: &[Entry],
     cells: &[R],
     words: &[u64],
     rounds: usize,
     buffer: &mut [R],
-) -> u8 {
-    let mut answer = 0;
-    for _ in 0..rounds {
-        answer = match read_columns(layout, table, sources, cells, words, buffer) {
-            Ok(_) => 0,
-            Err(fault) => fault.number(),
-        };
+) -> Result<(), Refusal>
+    ensures { result ≡ read_answer row_variables heights.now (table_of entries.now) (length cells.now) (length words.now) rounds (length buffer.old) }
+{
+    let layout = layout_of(row_variables, heights)?;
+    let records = Records::of(entries);
+    let table = records.as_slice();
+    let mut outcome = Ok(());
+    // Each round reads anew, also after a refusal: the rounds are there to be timed.
+    for round in 0..rounds {
+        let read = read_columns(&layout, table, heights.len(), cells, words, buffer);
+        outcome = read.map(|_| ());
     }
-    answer
+    outcome?;
+    Ok(())
 }
 
+// The C interface has no type parameters: a name for words, and one for residues.
 #[unsafe(no_mangle)]
 pub extern "C" fn mossplane_read_words(
     row_variables: usize,
@@ -47,21 +54,18 @@ pub extern "C" fn mossplane_read_words(
     words: &[u64],
     rounds: usize,
     buffer: &mut [Word],
-) -> u8 {
-    let records = records_of(entries);
-    let count = entries.len().min(MAX_ENTRIES);
-    match layout_of(row_variables, heights) {
-        Ok(layout) => read_rounds(
-            &layout,
-            &records[0..count],
-            heights.len(),
-            cells,
-            words,
-            rounds,
-            buffer,
-        ),
-        Err(fault) => fault,
-    }
+) -> u8
+    ensures { result ≡ told (read_answer row_variables heights.now (table_of entries.now) (length cells.now) (length words.now) rounds (length buffer.old)) }
+{
+    told(read_rounds(
+        row_variables,
+        heights,
+        entries,
+        cells,
+        words,
+        rounds,
+        buffer,
+    ))
 }
 
 #[unsafe(no_mangle)]
@@ -73,19 +77,16 @@ pub extern "C" fn mossplane_read_residues(
     words: &[u64],
     rounds: usize,
     buffer: &mut [Residue],
-) -> u8 {
-    let records = records_of(entries);
-    let count = entries.len().min(MAX_ENTRIES);
-    match layout_of(row_variables, heights) {
-        Ok(layout) => read_rounds(
-            &layout,
-            &records[0..count],
-            heights.len(),
-            cells,
-            words,
-            rounds,
-            buffer,
-        ),
-        Err(fault) => fault,
-    }
+) -> u8
+    ensures { result ≡ told (read_answer row_variables heights.now (table_of entries.now) (length cells.now) (length words.now) rounds (length buffer.old)) }
+{
+    told(read_rounds(
+        row_variables,
+        heights,
+        entries,
+        cells,
+        words,
+        rounds,
+        buffer,
+    ))
 }

@@ -1,13 +1,19 @@
 // The weights of a point, the selector's table, and its values at dense points.
-ghost use Rattle.std.specs.Prelude.{◌≡◌, ℕ, ◌<◌, map, length, drop, slice_index_or};
+ghost use Rattle.std.specs.Prelude.{◌≡◌, ℕ, ◌<◌, map, length, drop, slice_index_or, MatchResult};
 ghost use Rattle.ring.specs.Kinds.{words, word_value, residues, residue_value};
+ghost use Rattle.layout.specs.Plan.{planned};
 ghost use Rattle.selector.specs.Prefix.{weight_count};
+ghost use Rattle.selector.specs.Selector.{Table};
 ghost use Rattle.selector.specs.Weights.{eq};
+ghost use Rattle.export.specs.Calls.{table_answer};
+ghost use Rattle.export.specs.Refusals.{told};
 
 use crate::layouts::layout_of;
+use crate::refusal::{Refusal, told};
 use ring::{Residue, Ring, Word};
 use selector::{JaggedPoint, equality_prefix, evaluate, table};
 
+// The C interface has no type parameters: a name for words, and one for residues, here and below.
 #[unsafe(no_mangle)]
 pub extern "C" fn mossplane_weights_words(point: &[Word], buffer: &mut [Word]) -> usize
     ensures count { result ≡ weight_count (length point.now) (length buffer.old) }
@@ -26,21 +32,19 @@ pub extern "C" fn mossplane_weights_residues(point: &[Residue], cells: &mut [Res
     equality_prefix(point, cells)
 }
 
-// Writes the selector's table; the fault's number, or 0.
-fn table_of<'p, R: Ring>(
+// Writes the selector's table.
+fn table_of<R: Ring>(
     row_variables: usize,
     heights: &[usize],
-    row: &'p [R],
-    column: &'p [R],
+    point: &JaggedPoint<'_, R>,
     buffer: &mut [R],
-) -> u8 {
-    match layout_of(row_variables, heights) {
-        Ok(layout) => match table(&layout, &JaggedPoint::new(row, column), buffer) {
-            Ok(_) => 0,
-            Err(fault) => fault.number(),
-        },
-        Err(fault) => fault,
-    }
+) -> Result<(), Refusal>
+    ensures answer { result ≡ table_answer row_variables heights.now (length point.now.row.now) (length point.now.column.now) (length buffer.old) }
+    ensures cells { MatchResult result (λ _. Table R.Ring.ops (planned row_variables heights.now 0) (map R.Ring.value point.now.row.now) (map R.Ring.value point.now.column.now) (map R.Ring.value buffer.new)) (λ _. buffer.new ≡ buffer.old) }
+{
+    let layout = layout_of(row_variables, heights)?;
+    table(&layout, point, buffer)?;
+    Ok(())
 }
 
 #[unsafe(no_mangle)]
@@ -50,8 +54,16 @@ pub extern "C" fn mossplane_table_words(
     row: &[Word],
     column: &[Word],
     buffer: &mut [Word],
-) -> u8 {
-    table_of(row_variables, heights, row, column, buffer)
+) -> u8
+    ensures number { result ≡ told (table_answer row_variables heights.now (length row.now) (length column.now) (length buffer.old)) }
+    ensures cells { MatchResult (table_answer row_variables heights.now (length row.now) (length column.now) (length buffer.old)) (λ _. Table words (planned row_variables heights.now 0) (map word_value row.now) (map word_value column.now) (map word_value buffer.new)) (λ _. buffer.new ≡ buffer.old) }
+{
+    told(table_of(
+        row_variables,
+        heights,
+        &JaggedPoint::new(row, column),
+        buffer,
+    ))
 }
 
 #[unsafe(no_mangle)]
@@ -61,41 +73,35 @@ pub extern "C" fn mossplane_table_residues(
     row: &[Residue],
     column: &[Residue],
     buffer: &mut [Residue],
-) -> u8 {
-    table_of(row_variables, heights, row, column, buffer)
+) -> u8
+    ensures number { result ≡ told (table_answer row_variables heights.now (length row.now) (length column.now) (length buffer.old)) }
+    ensures cells { MatchResult (table_answer row_variables heights.now (length row.now) (length column.now) (length buffer.old)) (λ _. Table residues (planned row_variables heights.now 0) (map residue_value row.now) (map residue_value column.now) (map residue_value buffer.new)) (λ _. buffer.new ≡ buffer.old) }
+{
+    told(table_of(
+        row_variables,
+        heights,
+        &JaggedPoint::new(row, column),
+        buffer,
+    ))
 }
 
-// Writes the selector's value at each dense point, which follow one another; the first fault's number, or 0.
-fn values_of<'p, R: Ring>(
+// Writes the selector's value at each dense point, which follow one another, until they run out.
+fn values_of<R: Ring>(
     row_variables: usize,
     heights: &[usize],
-    row: &'p [R],
-    column: &'p [R],
+    point: JaggedPoint<'_, R>,
     dense: &[R],
     values: &mut [R],
-) -> u8 {
-    match layout_of(row_variables, heights) {
-        Ok(layout) => {
-            let width = layout.dense_variables();
-            let mut at: usize = 0;
-            for k in 0..values.len() {
-                if dense.len() - at < width {
-                    return 0;
-                }
-                match evaluate(
-                    &layout,
-                    &JaggedPoint::new(row, column),
-                    &dense[at..at + width],
-                ) {
-                    Ok(value) => values[k] = value,
-                    Err(fault) => return fault.number(),
-                }
-                at += width;
-            }
-            0
-        }
-        Err(fault) => fault,
+) -> Result<(), Refusal> {
+    let layout = layout_of(row_variables, heights)?;
+    let mut rest = dense;
+    for value in values.iter_mut() {
+        let Some(place) = rest.split_off(..layout.dense_variables()) else {
+            break;
+        };
+        *value = evaluate(&layout, &point, place)?;
     }
+    Ok(())
 }
 
 #[unsafe(no_mangle)]
@@ -107,7 +113,13 @@ pub extern "C" fn mossplane_values_words(
     dense: &[Word],
     values: &mut [Word],
 ) -> u8 {
-    values_of(row_variables, heights, row, column, dense, values)
+    told(values_of(
+        row_variables,
+        heights,
+        JaggedPoint::new(row, column),
+        dense,
+        values,
+    ))
 }
 
 #[unsafe(no_mangle)]
@@ -119,5 +131,11 @@ pub extern "C" fn mossplane_values_residues(
     dense: &[Residue],
     values: &mut [Residue],
 ) -> u8 {
-    values_of(row_variables, heights, row, column, dense, values)
+    told(values_of(
+        row_variables,
+        heights,
+        JaggedPoint::new(row, column),
+        dense,
+        values,
+    ))
 }
