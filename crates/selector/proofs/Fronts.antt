@@ -1,6 +1,6 @@
 -- Laws of weights: a coordinate more at the low end, and a point read from its low end. Assumes nothing.
-use Rattle.std.proofs.Common.{◌≡◌, ℕ, zero, suc, ◌+◌, ◌-◌, ◌/◌, ◌%◌, ◌^◌, ◌<◌, ◌≤◌, Bool, true, false, cond, eqb, ltb, List, length, get_or, sym, refl, ap, ◌∙◌, ap₂, div-one, arith, ltb-true, le-ltb, lt-ltb, ne_eqb, eqb-true}
-use native.Mathlib.Nat.{pow-succ', div-div-eq-div-mul}
+use Rattle.std.proofs.Common.{◌≡◌, ℕ, zero, suc, ◌+◌, ◌-◌, ◌/◌, ◌%◌, ◌^◌, ◌<◌, ◌≤◌, Bool, true, false, cond, eqb, ltb, List, length, get_or, sym, refl, ap, ◌∙◌, ap₂, div-one, pow-suc, add-one, arith, ltb-true, le-ltb, lt-ltb, ne_eqb, eqb-true}
+use native.Mathlib.Nat.{pow-succ', div-div-eq-div-mul, div-eq_of_lt}
 use borrow.Author.Tests.{eqb-false}
 use Rattle.ring.specs.Operations.{Operations, Laws}
 use Rattle.ring.specs.Algebra.{one-times, nought-times}
@@ -100,3 +100,27 @@ module _ (K : Operations) (L : Laws K) (point : List K.Value) where
   -- a point's weights, read from the lowest layer up
   pub upper-eq : (n i : ℕ) → length point ≤ n → upper K (coordinate K point) 0 n i ≡ eq K point i
   upper-eq n i deep = upper_front (length point) n 0 i (omega arith) deep
+
+  -- the weight that the coordinates from a layer up give to what is left of a number there
+  abbrev pub above : ℕ → ℕ → K.Value
+  above index layer = upper K (coordinate K point) layer (length point - layer) (index / 2 ^ layer)
+
+  pub above_all : (index : ℕ) → above index 0 ≡ eq K point index
+  above_all index = upper-eq (length point - 0) (index / 1) (omega arith) ∙ ap (eq K point) (div-one index)
+
+  pub above_none : (index layer : ℕ) → layer ≡ length point → index < 2 ^ length point → above index layer ≡ K.one
+  above_none index layer is inside =
+      let none : length point - layer ≡ 0 = omega arith in
+      let rest : index / 2 ^ layer ≡ 0 = ap (λ e. index / 2 ^ e) is ∙ div-eq_of_lt inside in
+      ap₂ (λ n i. upper K (coordinate K point) layer n i) none rest
+
+  -- a layer's coordinate joins what is multiplied so far
+  pub above_more : (index layer : ℕ) (product x : K.Value) → layer < length point → x ≡ get_or point (length point - 1 - layer) K.one → K.times (K.times product (factor K (bit layer index) x)) (above index (layer + 1)) ≡ K.times product (above index layer)
+  above_more index layer product x inside is =
+      let more : length point - layer ≡ suc (length point - suc layer) = omega arith in
+      let half : index / 2 ^ suc layer ≡ index / 2 ^ layer / 2 = ap (λ y. index / y) (pow-suc 2 layer) ∙ sym (div-div-eq-div-mul index (2 ^ layer) 2) in
+      let here : x ≡ coordinate K point layer = is ∙ sym (ap (λ b. cond b (get_or point (length point - 1 - layer) K.one) K.nought) (lt-ltb layer (length point) inside)) in
+      L.times_assoc product (factor K (bit layer index) x) (above index (layer + 1))
+      ∙ ap (K.times product) (ap (λ k. K.times (factor K (bit layer index) x) (above index k)) (add-one layer)
+      ∙ ap₂ K.times (ap₂ (factor K) (ap (λ y. eqb (y % 2) 1) (sym (div-one (index / 2 ^ layer)))) here) (ap (upper K (coordinate K point) (suc layer) (length point - suc layer)) half)
+      ∙ ap (λ n. upper K (coordinate K point) layer n (index / 2 ^ layer)) (sym more))

@@ -8,7 +8,8 @@ ghost use Rattle.selector.specs.Selector.{Table, Columns};
 ghost use Rattle.selector.specs.Weights.{eq};
 
 use crate::error::JaggedError;
-use crate::point::{JaggedPoint, check_point};
+use crate::fitted::FittedPoint;
+use crate::point::JaggedPoint;
 use crate::weights::{weigh, weight_at};
 use layout::JaggedLayout;
 use ring::Ring;
@@ -23,9 +24,9 @@ pub fn table<R: Ring>(
     ensures cells { MatchResult result (λ _. Table R.Ring.ops (shape layout.now) (map R.Ring.value point.now.row.now) (map R.Ring.value point.now.column.now) (map R.Ring.value buffer.new)) (λ _. buffer.new ≡ buffer.old) }
     ensures kept { drop (capacity (shape layout.now)) buffer.new ≡ drop (capacity (shape layout.now)) buffer.old }
 {
-    check_point(layout, point.row().len(), point.column().len())?;
+    let fitted = FittedPoint::new(layout, point)?;
     check_room(layout, buffer.len())?;
-    write_table(layout, point.row(), point.column(), buffer);
+    fitted.write_table(buffer);
     Ok(())
 }
 
@@ -44,35 +45,27 @@ fn check_room(layout: &JaggedLayout, available: usize) -> Result<(), JaggedError
     Ok(())
 }
 
-fn write_table<R: Ring>(layout: &JaggedLayout, row: &[R], column: &[R], buffer: &mut [R])
-    requires rows { length row.now ≡ (shape layout.now).rows }
-    requires columns { 2 ^ length column.now ≡ columns (shape layout.now) }
-    requires room { capacity (shape layout.now) ≤ length buffer.old }
-    ensures cells { Table R.Ring.ops (shape layout.now) (map R.Ring.value row.now) (map R.Ring.value column.now) (map R.Ring.value buffer.new) }
-    ensures kept { drop (capacity (shape layout.now)) buffer.new ≡ drop (capacity (shape layout.now)) buffer.old }
-{
-    fill_columns(layout, row, column, buffer);
-    blank(layout.area(), layout.dense_capacity(), buffer);
-}
+impl<R: Ring> FittedPoint<'_, R> {
+    fn write_table(&self, buffer: &mut [R])
+        requires room { capacity (shape self.now.layout.now) ≤ length buffer.old }
+        ensures cells { Table R.Ring.ops (shape self.now.layout.now) (map R.Ring.value self.now.row.now) (map R.Ring.value self.now.column.now) (map R.Ring.value buffer.new) }
+        ensures kept { drop (capacity (shape self.now.layout.now)) buffer.new ≡ drop (capacity (shape self.now.layout.now)) buffer.old }
+    {
+        self.fill_columns(buffer);
+        blank(self.layout.area(), self.layout.dense_capacity(), buffer);
+    }
 
-// Writes each column's weights over its interval.
-fn fill_columns<R: Ring>(layout: &JaggedLayout, row: &[R], column: &[R], buffer: &mut [R])
-    requires rows { length row.now ≡ (shape layout.now).rows }
-    requires columns { 2 ^ length column.now ≡ columns (shape layout.now) }
-    requires room { capacity (shape layout.now) ≤ length buffer.old }
-    ensures live { Columns R.Ring.ops (shape layout.now) (columns (shape layout.now)) (map R.Ring.value row.now) (map R.Ring.value column.now) (map R.Ring.value buffer.new) }
-    ensures kept { drop (area (shape layout.now)) buffer.new ≡ drop (area (shape layout.now)) buffer.old }
-    ensures lawful { Lawful (shape layout.now) }
-{
-    let boundaries = layout.cumulative_heights();
-    for y in 0..layout.num_columns() {
-        fill_column(
-            weight_at(column, y),
-            row,
-            boundaries[y],
-            boundaries[y + 1],
-            buffer,
-        );
+    // Writes each column's weights over its interval.
+    fn fill_columns(&self, buffer: &mut [R])
+        requires room { capacity (shape self.now.layout.now) ≤ length buffer.old }
+        ensures live { Columns R.Ring.ops (shape self.now.layout.now) (columns (shape self.now.layout.now)) (map R.Ring.value self.now.row.now) (map R.Ring.value self.now.column.now) (map R.Ring.value buffer.new) }
+        ensures kept { drop (area (shape self.now.layout.now)) buffer.new ≡ drop (area (shape self.now.layout.now)) buffer.old }
+        ensures lawful { Lawful (shape self.now.layout.now) }
+    {
+        let boundaries = self.layout.cumulative_heights();
+        for (y, (start, end)) in boundaries.iter().zip(&boundaries[1..]).enumerate() {
+            fill_column(weight_at(self.column, y), self.row, *start, *end, buffer);
+        }
     }
 }
 
@@ -90,12 +83,13 @@ fn fill_column<R: Ring>(weight: R, row: &[R], start: usize, end: usize, buffer: 
 
 // Sets the cells from one place up to another to zero.
 fn blank<R: Ring>(from: usize, to: usize, buffer: &mut [R])
-    requires { to ≤ length buffer.old }
+    requires ordered { from ≤ to }
+    requires room { to ≤ length buffer.old }
     ensures zero { (i : ℕ) → from ≤ i → i < to → slice_index_or (map R.Ring.value buffer.new) i R.Ring.ops.nought ≡ R.Ring.ops.nought }
     ensures low { (i : ℕ) → i < from → slice_index_or (map R.Ring.value buffer.new) i R.Ring.ops.nought ≡ slice_index_or (map R.Ring.value buffer.old) i R.Ring.ops.nought }
     ensures kept { drop to buffer.new ≡ drop to buffer.old }
 {
-    for i in from..to {
-        buffer[i] = R::zero();
+    for cell in &mut buffer[from..to] {
+        *cell = R::zero();
     }
 }
