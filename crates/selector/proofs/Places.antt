@@ -1,5 +1,5 @@
 -- Cells of a buffer after a part of it was written, and the places of columns. Assumes nothing.
-use Rattle.std.proofs.Common.{◌≡◌, ℕ, zero, suc, ◌+◌, ◌-◌, ◌^◌, ◌<◌, ◌≤◌, Bool, true, false, ltb, List, ◌++◌, map, length, get_or, take, drop, sym, refl, ap, ◌∙◌, subst, ap₂, add-zero, add-suc, add-one, zero-add, length-drop, drop-drop, arith, pow_mono, ltb-false, ltb-true}
+use Rattle.std.proofs.Common.{rules, ◌≡◌, ℕ, zero, suc, ◌+◌, ◌-◌, ◌^◌, ◌<◌, ◌≤◌, Bool, true, false, ltb, List, map, length, get_or, take, drop, sym, refl, ap, ◌∙◌, subst, add-zero, add-suc, add-one, zero-add, length-drop, drop-drop, arith, pow_mono, ltb-false, ltb-true}
 use borrow.Rule.Slice.PartMut.{put_mid}
 use Rattle.std.proofs.lemmas.List.FromFn.{length-map-range_with_len, get_or-map-range_with_len, length-enumerate_from, get_or-enumerate_from}
 use Rattle.std.proofs.lemmas.Slice.Zip.{length-zip, get_or-zip}
@@ -12,7 +12,7 @@ use Rattle.std.specs.declared.slice.Iter.{Iter}
 use Rattle.std.specs.Iterator.Adapters.{enumerate_source, enumerate_count, enumerate_steps, zip_first, zip_second}
 use Rattle.std.specs.Slice.Iter.{iter_rest}
 use Rattle.std.specs.List.{enumerate_from, zip}
-use Rattle.std.proofs.lemmas.List.{map-append, take-map, drop-map, length-map, length-take-le, get_or_append_left, get_or-append_right, get_or-take, get_or-drop, take_all}
+use Rattle.std.proofs.lemmas.List.{map-append, take-map, drop-map, length-map, get_or-drop, take_all, places}
 use Rattle.ring.specs.Operations.{Operations}
 use Rattle.layout.specs.Shape.{Shape, Lawful, columns, height, start, area, capacity, boundaries}
 use Rattle.layout.proofs.Shapes.{start_more, area-start}
@@ -34,29 +34,15 @@ drop_more m n xs ys later same =
     subst (λ k. drop k xs ≡ drop k ys) split (sym (drop-drop (n - m) m xs) ∙ ap (drop (n - m)) same ∙ drop-drop (n - m) m ys)
 
 map_put_mid : {A B : Type 0} (f : A → B) (a k : ℕ) (xs ys : List A) → map f (put_mid a k xs ys) ≡ put_mid a k (map f xs) (map f ys)
-map_put_mid f a k xs ys =
-    map-append f (take a xs) (ys ++ drop k (drop a xs))
-    ∙ ap₂ ◌++◌ (sym (take-map f a xs)) (map-append f ys (drop k (drop a xs)) ∙ ap (λ r. map f ys ++ r) (sym (drop-map f k (drop a xs)) ∙ ap (drop k) (sym (drop-map f a xs))))
+map_put_mid f a k xs ys = simp (map-append, take-map, drop-map)
 
-module _ {A : Type 0} (a k : ℕ) (xs ys : List A) (inside : a ≤ length xs) where
-  pub put-below : (i : ℕ) (d : A) → i < a → get_or (put_mid a k xs ys) i d ≡ get_or xs i d
-  put-below i d h =
-      let long : length (take a xs) ≡ a = length-take-le a xs inside in
-      get_or_append_left (take a xs) (ys ++ drop k (drop a xs)) d i (omega arith) ∙ get_or-take a xs i d h
-
-  pub put_in : (i : ℕ) (d : A) → i < length ys → get_or (put_mid a k xs ys) (a + i) d ≡ get_or ys i d
-  put_in i d h =
-      let long : length (take a xs) ≡ a = length-take-le a xs inside in
-      let place : a + i - a ≡ i = omega arith in
-      get_or-append_right (take a xs) (ys ++ drop k (drop a xs)) a (a + i) d long (omega arith) ∙ ap (λ n. get_or (ys ++ drop k (drop a xs)) n d) place ∙ get_or_append_left ys (drop k (drop a xs)) d i h
-
--- the same through the values that elements stand for
+-- the cells of a buffer after a part of it was written, through the values that they stand for
 module _ {A B : Type 0} (f : A → B) (a k : ℕ) (xs ys : List A) (inside : a ≤ length xs) where
   pub map_below : (i : ℕ) (d : B) → i < a → get_or (map f (put_mid a k xs ys)) i d ≡ get_or (map f xs) i d
-  map_below i d h = ap (λ l. get_or l i d) (map_put_mid f a k xs ys) ∙ put-below a k (map f xs) (map f ys) (simp length-map inside) i d h
+  map_below i d h = rw (map_put_mid f a k xs ys) (let long = length-map xs f in search (rules, places))
 
   pub map_in : (i : ℕ) (d : B) → i < length ys → get_or (map f (put_mid a k xs ys)) (a + i) d ≡ get_or (map f ys) i d
-  map_in i d h = ap (λ l. get_or l (a + i) d) (map_put_mid f a k xs ys) ∙ put_in a k (map f xs) (map f ys) (simp length-map inside) i d (simp length-map h)
+  map_in i d h = rw (map_put_mid f a k xs ys) (let long = length-map xs f in let written = length-map ys f in search (rules, places))
 
 -- each boundary with the next one, counted
 abbrev pub intervals : List ℕ → List (ℕ × (ℕ × ℕ))

@@ -17,7 +17,7 @@ module _ {A B : Type 0} (f : A → B) (xs : List A) where
       let long : length (map f xs) ≡ length xs = length-map xs f in
       let less : n < length (reverse xs) = omega (arith, turn.0, length-enumerate_from 0 (reverse xs)) in
       let inside : n < length xs = omega (arith, length-reverse xs) in
-      let e : (layer, x) ≡ (0 + n, get_or (reverse xs) n x) = turn.1 ∙ get_or-enumerate_from 0 (reverse xs) n (layer, x) less in
+      let e : ◌≡◌ {A = ℕ × A} (layer, x) (0 + n, get_or (reverse xs) n x) = turn.1 ∙ get_or-enumerate_from 0 (reverse xs) n (layer, x) less in
       record {
         inside = omega arith;
         place = ap {B = ℕ} (λ p. p.0) e ∙ zero-add n;
