@@ -1,5 +1,5 @@
 -- Cells of a buffer after a part of it was written, and the places of columns. Assumes nothing.
-use Rattle.std.proofs.Common.{rules, ◌≡◌, ℕ, zero, suc, ◌+◌, ◌-◌, ◌^◌, ◌<◌, ◌≤◌, Bool, true, false, ltb, List, map, length, get_or, take, drop, sym, refl, ap, ◌∙◌, subst, add-zero, add-suc, add-one, zero-add, length-drop, drop-drop, arith, pow_mono, ltb-false, ltb-true}
+use Rattle.std.proofs.Common.{rules, ◌++◌, ◌≡◌, ℕ, zero, suc, ◌+◌, ◌-◌, ◌^◌, ◌<◌, ◌≤◌, Bool, true, false, ltb, List, map, length, get_or, take, drop, sym, refl, ap, ◌∙◌, subst, add-zero, add-suc, add-one, zero-add, length-drop, drop-drop, arith, pow_mono, ltb-false, ltb-true}
 use borrow.Rule.Slice.PartMut.{put_mid}
 use Rattle.std.proofs.lemmas.List.FromFn.{length-map-range_with_len, get_or-map-range_with_len, length-enumerate_from, get_or-enumerate_from}
 use Rattle.std.proofs.lemmas.Slice.Zip.{length-zip, get_or-zip}
@@ -12,11 +12,11 @@ use Rattle.std.specs.declared.slice.Iter.{Iter}
 use Rattle.std.specs.Iterator.Adapters.{enumerate_source, enumerate_count, enumerate_steps, zip_first, zip_second}
 use Rattle.std.specs.Slice.Iter.{iter_rest}
 use Rattle.std.specs.List.{enumerate_from, zip}
-use Rattle.std.proofs.lemmas.List.{map-append, take-map, drop-map, length-map, get_or-drop, take_all, places}
+use Rattle.std.proofs.lemmas.List.{get_or_append_left, map-append, take-map, drop-map, length-map, get_or-drop, take_all, places}
 use Rattle.ring.specs.Operations.{Operations}
 use Rattle.layout.specs.Shape.{Shape, Lawful, columns, height, start, area, capacity, boundaries}
 use Rattle.layout.proofs.Shapes.{start_more, area-start}
-use Rattle.selector.specs.Selector.{Columns}
+use Rattle.selector.specs.Selector.{Columns, Table}
 use Rattle.selector.specs.Weights.{eq}
 
 -- a point that names few numbers has few coordinates
@@ -41,8 +41,9 @@ module _ {A B : Type 0} (f : A → B) (a k : ℕ) (xs ys : List A) (inside : a �
   pub map_below : (i : ℕ) (d : B) → i < a → get_or (map f (put_mid a k xs ys)) i d ≡ get_or (map f xs) i d
   map_below i d h = rw (map_put_mid f a k xs ys) (let long = length-map xs f in search (rules, places))
 
-  pub map_in : (i : ℕ) (d : B) → i < length ys → get_or (map f (put_mid a k xs ys)) (a + i) d ≡ get_or (map f ys) i d
-  map_in i d h = rw (map_put_mid f a k xs ys) (let long = length-map xs f in let written = length-map ys f in search (rules, places))
+  pub map_in : (m i : ℕ) (d : B) → i ≡ a + m → m < length ys → get_or (map f (put_mid a k xs ys)) i d ≡ get_or (map f ys) m d
+  map_in m i d is h =
+      ap (λ n. get_or (map f (put_mid a k xs ys)) n d) is ∙ rw (map_put_mid f a k xs ys) (let long = length-map xs f in let written = length-map ys f in search (rules, places))
 
 -- each boundary with the next one, counted
 abbrev pub intervals : List ℕ → List (ℕ × (ℕ × ℕ))
@@ -134,3 +135,13 @@ module _ (K : Operations) (S : Shape) (row column : List K.Value) where
           let same : z ≡ y = omega (arith, ltb-false z y t) in
           let place : start S z + r ≡ s + r = omega (arith, ap (start S) same, col.from) in
           ap (λ i. get_or after i K.nought) place ∙ cells r (omega (arith, col.gap, ap (height S) same)) ∙ ap (K.times (eq K row r)) (is-weight ∙ ap (eq K column) (sym same))
+
+  -- the table stays where other cells follow
+  pub table_front : (cells rest : List K.Value) → Lawful S → length cells ≡ capacity S → Table K S row column cells → Table K S row column (cells ++ rest)
+  table_front cells rest lawful long table = record {
+    live = λ y r inside short.
+        let next = start_more S y inside in
+        let last = start_mono S (y + 1) (columns S) (omega arith) (omega arith) in
+        get_or_append_left cells rest K.nought (start S y + r) (omega (arith, area-start S, lawful.covered)) ∙ table.live y r inside short;
+    padding = λ i from to. get_or_append_left cells rest K.nought i (omega arith) ∙ table.padding i from to;
+  }

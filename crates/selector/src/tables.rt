@@ -26,7 +26,7 @@ pub fn table<R: Ring>(
 {
     let fitted = FittedPoint::new(layout, point)?;
     check_room(layout, buffer.len())?;
-    fitted.write_table(buffer);
+    fitted.write_table(&mut buffer[..layout.dense_capacity()]);
     Ok(())
 }
 
@@ -46,50 +46,46 @@ fn check_room(layout: &JaggedLayout, available: usize) -> Result<(), JaggedError
 }
 
 impl<R: Ring> FittedPoint<'_, R> {
-    fn write_table(&self, buffer: &mut [R])
-        requires room { capacity (shape self.now.layout.now) ≤ length buffer.old }
-        ensures cells { Table R.Ring.ops (shape self.now.layout.now) (map R.Ring.value self.now.row.now) (map R.Ring.value self.now.column.now) (map R.Ring.value buffer.new) }
-        ensures kept { drop (capacity (shape self.now.layout.now)) buffer.new ≡ drop (capacity (shape self.now.layout.now)) buffer.old }
+    // Writes the table over as many cells as the capacity.
+    fn write_table(&self, cells: &mut [R])
+        requires { length cells.old ≡ capacity (shape self.now.layout.now) }
+        ensures table { Table R.Ring.ops (shape self.now.layout.now) (map R.Ring.value self.now.row.now) (map R.Ring.value self.now.column.now) (map R.Ring.value cells.new) }
+        ensures lawful { Lawful (shape self.now.layout.now) }
     {
-        self.fill_columns(buffer);
-        blank(self.layout.area(), self.layout.dense_capacity(), buffer);
+        self.fill_columns(cells);
+        blank(&mut cells[self.layout.area()..]);
     }
 
     // Writes each column's weights over its interval.
-    fn fill_columns(&self, buffer: &mut [R])
-        requires room { capacity (shape self.now.layout.now) ≤ length buffer.old }
-        ensures live { Columns R.Ring.ops (shape self.now.layout.now) (columns (shape self.now.layout.now)) (map R.Ring.value self.now.row.now) (map R.Ring.value self.now.column.now) (map R.Ring.value buffer.new) }
-        ensures kept { drop (area (shape self.now.layout.now)) buffer.new ≡ drop (area (shape self.now.layout.now)) buffer.old }
+    fn fill_columns(&self, cells: &mut [R])
+        requires { length cells.old ≡ capacity (shape self.now.layout.now) }
+        ensures live { Columns R.Ring.ops (shape self.now.layout.now) (columns (shape self.now.layout.now)) (map R.Ring.value self.now.row.now) (map R.Ring.value self.now.column.now) (map R.Ring.value cells.new) }
         ensures lawful { Lawful (shape self.now.layout.now) }
     {
         let boundaries = self.layout.cumulative_heights();
         for (y, (start, end)) in boundaries.iter().zip(&boundaries[1..]).enumerate() {
-            fill_column(weight_at(self.column, y), self.row, *start, *end, buffer);
+            let weight = weight_at(self.column, y);
+            fill_column(weight, self.row, *start, *end, cells);
         }
     }
 }
 
 // Writes one column's weights over the interval from start to end.
-fn fill_column<R: Ring>(weight: R, row: &[R], start: usize, end: usize, buffer: &mut [R])
+fn fill_column<R: Ring>(weight: R, row: &[R], start: usize, end: usize, cells: &mut [R])
     requires ordered { start ≤ end }
-    requires room { end ≤ length buffer.old }
+    requires room { end ≤ length cells.old }
     requires tall { end - start ≤ 2 ^ length row.now }
-    ensures cells { (i : ℕ) → i < end - start → slice_index_or (map R.Ring.value buffer.new) (start + i) R.Ring.ops.nought ≡ R.Ring.ops.times (eq R.Ring.ops (map R.Ring.value row.now) i) (R.Ring.value weight) }
-    ensures low { (i : ℕ) → i < start → slice_index_or (map R.Ring.value buffer.new) i R.Ring.ops.nought ≡ slice_index_or (map R.Ring.value buffer.old) i R.Ring.ops.nought }
-    ensures kept { drop end buffer.new ≡ drop end buffer.old }
+    ensures weights { (i : ℕ) → i < end - start → slice_index_or (map R.Ring.value cells.new) (start + i) R.Ring.ops.nought ≡ R.Ring.ops.times (eq R.Ring.ops (map R.Ring.value row.now) i) (R.Ring.value weight) }
+    ensures low { (i : ℕ) → i < start → slice_index_or (map R.Ring.value cells.new) i R.Ring.ops.nought ≡ slice_index_or (map R.Ring.value cells.old) i R.Ring.ops.nought }
 {
-    weigh(weight, row, &mut buffer[start..end]);
+    weigh(weight, row, &mut cells[start..end]);
 }
 
-// Sets the cells from one place up to another to zero.
-fn blank<R: Ring>(from: usize, to: usize, buffer: &mut [R])
-    requires ordered { from ≤ to }
-    requires room { to ≤ length buffer.old }
-    ensures zero { (i : ℕ) → from ≤ i → i < to → slice_index_or (map R.Ring.value buffer.new) i R.Ring.ops.nought ≡ R.Ring.ops.nought }
-    ensures low { (i : ℕ) → i < from → slice_index_or (map R.Ring.value buffer.new) i R.Ring.ops.nought ≡ slice_index_or (map R.Ring.value buffer.old) i R.Ring.ops.nought }
-    ensures kept { drop to buffer.new ≡ drop to buffer.old }
+// Sets cells to zero.
+fn blank<R: Ring>(cells: &mut [R])
+    ensures { (i : ℕ) → i < length cells.old → slice_index_or (map R.Ring.value cells.new) i R.Ring.ops.nought ≡ R.Ring.ops.nought }
 {
-    for cell in &mut buffer[from..to] {
+    for cell in cells {
         *cell = R::zero();
     }
 }
