@@ -1,5 +1,5 @@
 -- Cells of a buffer after a part of it was written, and the places of columns. Assumes nothing.
-use Rattle.std.proofs.Common.{rules, ◌++◌, ◌≡◌, ℕ, zero, suc, ◌+◌, ◌-◌, ◌^◌, ◌<◌, ◌≤◌, Bool, true, false, ltb, List, map, length, get_or, take, drop, sym, refl, ap, ◌∙◌, subst, add-zero, add-suc, add-one, zero-add, length-drop, drop-drop, arith, pow_mono, ltb-false, ltb-true}
+use Rattle.std.proofs.Common.{rules, ◌++◌, ◌≡◌, ℕ, zero, suc, ◌+◌, ◌-◌, ◌^◌, ◌<◌, ◌≤◌, Bool, true, false, ltb, List, map, length, get_or, take, drop, sym, refl, ap, ◌∙◌, subst, add-zero, add-suc, add-one, zero-add, length-drop, drop-drop, arith, ltb-false, ltb-true}
 use borrow.Rule.Slice.PartMut.{put_mid}
 use Rattle.std.proofs.lemmas.List.FromFn.{length-map-range_with_len, get_or-map-range_with_len, length-enumerate_from, get_or-enumerate_from}
 use Rattle.std.proofs.lemmas.Slice.Zip.{length-zip, get_or-zip}
@@ -18,14 +18,6 @@ use Rattle.layout.specs.Shape.{Shape, Lawful, columns, height, start, area, capa
 use Rattle.layout.proofs.Shapes.{start_more, area-start}
 use Rattle.selector.specs.Selector.{Columns, Table}
 use Rattle.selector.specs.Weights.{eq}
-
--- a point that names few numbers has few coordinates
-pub narrow : (w : ℕ) → 2 ^ w < 2 ^ 64 → w ≤ 64
-narrow w h = go (ltb w 65) refl
-  where
-    go : (b : Bool) → ltb w 65 ≡ b → w ≤ 64
-    go true t = omega (arith, ltb-true w 65 t)
-    go false t = absurd (omega (arith, pow_mono {i = 64} {j = w} (omega (arith, ltb-false w 65 t))))
 
 -- what is the same from a place on is the same from each later one
 pub drop_more : {A : Type 0} (m n : ℕ) (xs ys : List A) → m ≤ n → drop m xs ≡ drop m ys → drop n xs ≡ drop n ys

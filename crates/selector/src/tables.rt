@@ -85,7 +85,6 @@ fn fill_column<R: Ring>(weight: R, row: &[R], start: usize, end: usize, cells: &
 fn blank<R: Ring>(cells: &mut [R])
     ensures { (i : ℕ) → i < length cells.old → slice_index_or (map R.Ring.value cells.new) i R.Ring.ops.nought ≡ R.Ring.ops.nought }
 {
-    for cell in cells {
-        *cell = R::zero();
-    }
+    let zero = R::zero();
+    cells.fill_with(|| zero);
 }
