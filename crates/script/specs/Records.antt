@@ -1,8 +1,8 @@
 -- The record of a call: the line that is printed for a line of a script. Assumes nothing.
-use Rattle.std.specs.Prelude.{ℕ, ◌/◌, ◌%◌, false, cond, List, [], ◌∷◌, ◌++◌, vec_items, string_bytes, codes, decimal}
+use Rattle.std.specs.Prelude.{ℕ, ◌/◌, ◌%◌, false, cond, List, [], ◌∷◌, ◌++◌, Some, vec_items, string_bytes, codes, decimal, Option}
 use Prim.Native.String.{String}
 use Rattle.std.specs.Int.Count.{count_trailing_zeros}
-use Rattle.std.specs.Fmt.{digit_glyph}
+use Rattle.std.specs.Fmt.{digit_glyph, ◌++?◌}
 use Rattle.std.specs.List.{flat_map}
 use Rattle.ring.specs.declared.fault.RingError.{RingError}
 use Rattle.ring.specs.declared.fault.RingError.TheVariants as ring
@@ -20,6 +20,12 @@ abbrev pub separated : {A : Type 0} → (A → List ℕ) → List A → List ℕ
 separated text [] = []
 separated text (x ∷ []) = text x
 separated text (x ∷ y ∷ xs) = text x ++ (codes "," ++ separated text (y ∷ xs))
+
+-- what is printed of each, with commas between them; unknown where one of them is
+abbrev pub separated_outputs : {A : Type 0} → (A → Option (List ℕ)) → List A → Option (List ℕ)
+separated_outputs output [] = Some []
+separated_outputs output (x ∷ []) = output x
+separated_outputs output (x ∷ y ∷ xs) = output x ++? Some (codes ",") ++? separated_outputs output (y ∷ xs)
 
 -- numbers in decimal, with commas between them
 abbrev pub commas : List ℕ → List ℕ

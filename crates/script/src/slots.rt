@@ -23,19 +23,14 @@ impl Session {
     pub fn held(&self, name: &str) -> JaggedLayout
         ensures { shape result ≡ slot self.now name.now }
     {
-        match self.slots.get(name) {
-            Some(layout) => *layout,
-            None => JaggedLayout::empty(),
-        }
+        self.slots.get(name).copied().unwrap_or_default()
     }
 
     // Has a name hold a layout.
     pub(crate) fn hold(&mut self, name: String, layout: JaggedLayout) -> Result<(), AllocError>
         ensures { MatchResult result (λ _. (other : List ℕ) → slot self.new other ≡ placed (slot self.old) (string_bytes name) (shape layout) other) (λ _. Same self.old self.new) }
     {
-        match self.slots.insert(name, layout) {
-            Ok(_) => Ok(()),
-            Err(back) => Err(back.into()),
-        }
+        self.slots.insert(name, layout)?;
+        Ok(())
     }
 }

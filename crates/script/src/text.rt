@@ -5,6 +5,7 @@ ghost use Rattle.layout.specs.Layout.{shape};
 ghost use Rattle.script.specs.Records.{commas, field, hex, shortage_of, ring_fault, layout_fault, layout_fault_fields, layout_fields, variable_fields, size_fields, told, line};
 
 use crate::answer::Answer;
+use crate::separated::Separated;
 use layout::{JaggedLayout, JaggedLayoutError};
 use ring::RingError;
 use std::alloc::{AllocError, Global};
@@ -144,15 +145,8 @@ fn layout_fault_fields(heap: Global, fault: &JaggedLayoutError) -> Result<String
 pub fn joined(heap: Global, numbers: &[usize]) -> Result<String, AllocError>
     ensures { IfOk result (λ s. string_bytes s ≡ commas numbers.now) }
 {
-    let mut text = String::new(heap);
-    for (place, number) in numbers.iter().enumerate() {
-        if place > 0 {
-            text.push(',')?;
-        }
-        let digits = format!(in heap; "{number}")?;
-        text.push_str(digits.as_str())?;
-    }
-    Ok(text)
+    let all = Separated(numbers);
+    format!(in heap; "{all}")
 }
 
 // The hexadecimal digit of a number below sixteen.
