@@ -1,38 +1,14 @@
 -- Texts that are written piece by piece. Assumes nothing.
-use Rattle.std.proofs.Common.{◌≡◌, ℕ, ◌+◌, ◌-◌, ◌/◌, ◌%◌, ◌<◌, ◌≤◌, false, List, [], ◌∷◌, ◌++◌, length, get_or, take, drop, codes, decimal, Some, None, Option, sym, refl, ap, ◌∙◌, append_assoc, append-nil, arith, length-take}
-use lib.Utf8.{encode}
+use Rattle.std.proofs.Common.{◌≡◌, ℕ, ◌+◌, ◌-◌, ◌/◌, ◌%◌, ◌<◌, ◌≤◌, false, List, [], ◌∷◌, ◌++◌, length, get_or, take, drop, codes, decimal, Some, None, Option, sym, refl, ap, ◌∙◌, append_assoc, append-nil, arith}
 use Rattle.std.specs.Fmt.{digit_glyph, ◌++?◌}
 use Rattle.std.proofs.lemmas.List.{take_more, take_all, flat_map_more}
-use Rattle.std.proofs.lemmas.Bool.Decides.{nat_tests}
-use lib.Count.{count_trailing_zeros}
-use Rattle.layout.specs.Shape.{Shape, columns, area, capacity, boundaries}
-use Rattle.script.specs.Records.{separated, separated_outputs, commas, hex, layout_fields, variable_fields, size_fields, ring_fault, shortage_of}
-use Rattle.ring.specs.Numbers.{ring_number}
-use Rattle.ring.specs.declared.fault.RingError.{RingError}
-
-abbrev pair : ℕ → List ℕ
-pair b = digit_glyph false (b / 16) ∷ digit_glyph false (b % 16) ∷ []
-
-glyph_ascii : (d : ℕ) → d < 16 → digit_glyph false d < 128
-glyph_ascii d h = grind (arith, nat_tests)
+use Rattle.script.specs.Records.{separated, separated_outputs, commas, hex}
 
 -- one byte more, by its two digits
-pub hex_more : (bytes : List ℕ) (i : ℕ) → i < length bytes → (start was mid now : List ℕ) (high low : ℕ) → was ≡ start ++ hex (take i bytes) → high ≡ digit_glyph false (get_or bytes i 0 / 16) → mid ≡ was ++ encode high → (high < 128 → encode high ≡ high ∷ []) → low ≡ digit_glyph false (get_or bytes i 0 % 16) → now ≡ mid ++ encode low → (low < 128 → encode low ≡ low ∷ []) → get_or bytes i 0 < 256 → now ≡ start ++ hex (take (i + 1) bytes)
-hex_more bytes i lt start was mid now high low sofar h1 p1 a1 h2 p2 a2 fits =
-    let b = get_or bytes i 0 in
-    let first : high < 128 = rw h1 (glyph_ascii (b / 16) (omega arith)) in
-    let second : low < 128 = rw h2 (glyph_ascii (b % 16) (omega arith)) in
-    p2
-    ∙ ap (λ l. l ++ encode low) p1
-    ∙ ap (λ l. (was ++ l) ++ encode low) (a1 first)
-    ∙ ap (λ l. (was ++ high ∷ []) ++ l) (a2 second)
-    ∙ append_assoc was (high ∷ []) (low ∷ [])
-    ∙ (λ t. sofar t ++ h1 t ∷ h2 t ∷ [])
-    ∙ flat_map_more pair start (take i bytes) b
-    ∙ ap (λ l. start ++ hex l) (sym (take_more bytes i 0 lt))
-
-pub hex_all : (bytes : List ℕ) (i : ℕ) → length bytes ≤ i → (start now : List ℕ) → now ≡ start ++ hex (take i bytes) → now ≡ start ++ hex bytes
-hex_all bytes i all start now sofar = sofar ∙ ap (λ l. start ++ hex l) (take_all i bytes all)
+pub hex_more : (bytes : List ℕ) (i : ℕ) → i < length bytes → hex (take i bytes) ++ digit_glyph false (get_or bytes i 0 / 16) ∷ digit_glyph false (get_or bytes i 0 % 16) ∷ [] ≡ hex (take (i + 1) bytes)
+hex_more bytes i lt =
+    flat_map_more (λ b. digit_glyph false (b / 16) ∷ digit_glyph false (b % 16) ∷ []) [] (take i bytes) (get_or bytes i 0)
+    ∙ ap hex (sym (take_more bytes i 0 lt))
 
 -- texts that may be unknown, one after the other
 then_none : (o : Option (List ℕ)) → o ++? Some [] ≡ o
@@ -87,17 +63,3 @@ pub commas_told : (ns : List ℕ) → separated_outputs (λ n. Some (decimal n))
 commas_told [] = refl
 commas_told (n ∷ []) = refl
 commas_told (n ∷ m ∷ ns) = ap (λ o. Some (decimal n) ++? Some (codes ",") ++? o) (commas_told (m ∷ ns))
-
--- what a layout tells, number by number
-pub variables_told : (S : Shape) {r c d : ℕ} → r ≡ S.rows → c ≡ count_trailing_zeros 64 (columns S) → d ≡ S.dense → codes "row_variables=" ++ (decimal r ++ (codes " column_variables=" ++ (decimal c ++ (codes " dense_variables=" ++ decimal d)))) ≡ variable_fields S
-variables_told S er ec ed = λ t. codes "row_variables=" ++ (decimal (er t) ++ (codes " column_variables=" ++ (decimal (ec t) ++ (codes " dense_variables=" ++ decimal (ed t)))))
-
-pub sizes_told : (S : Shape) {n a k : ℕ} → n ≡ columns S → a ≡ area S → k ≡ capacity S → codes "num_columns=" ++ (decimal n ++ (codes " area=" ++ (decimal a ++ (codes " dense_capacity=" ++ decimal k)))) ≡ size_fields S
-sizes_told S en ea ek = λ t. codes "num_columns=" ++ (decimal (en t) ++ (codes " area=" ++ (decimal (ea t) ++ (codes " dense_capacity=" ++ decimal (ek t)))))
-
-pub layout_told : (S : Shape) {v s h : List ℕ} → v ≡ variable_fields S → s ≡ size_fields S → h ≡ commas (boundaries S) → codes "ok " ++ (v ++ (codes " " ++ (s ++ (codes " cumulative_heights=" ++ h)))) ≡ codes "ok" ++ layout_fields S
-unfolding layout_fields
-layout_told S ev es eh = λ t. codes "ok " ++ (ev t ++ (codes " " ++ (es t ++ (codes " cumulative_heights=" ++ eh t))))
-
-pub ring_fault-told : (f : RingError) (n : ℕ) (p : ℕ × ℕ) → n ≡ ring_number f → p ≡ shortage_of f → codes "fault " ++ (decimal n ++ (codes " BufferTooShort required=" ++ (decimal p.0 ++ (codes " available=" ++ decimal p.1)))) ≡ ring_fault f
-ring_fault-told f n p en ep = λ t. codes "fault " ++ (decimal (en t) ++ (codes " BufferTooShort required=" ++ (decimal (ep t).0 ++ (codes " available=" ++ decimal (ep t).1))))

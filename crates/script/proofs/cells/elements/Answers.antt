@@ -16,8 +16,7 @@ pub loop-chunk-preserved : goal.loop-chunk-preserved
 loop-chunk-preserved g c =
     let step = c.in-Some.ensures.steps in
     let x = c.in_ok-ok_or.field-0 in
-    let is = made _ _ c.of.result x c.in_ok-ok_or.ensures.value c.of.ensures in
-    (
+    let is = made _ _ c.of.result x c.in_ok-ok_or.ensures.value c.of.ensures in (
       step.0 ∙ c.loop-chunk.invariant.0,
       cut_more g.R.Element.parts g.R.Element.numbered c.args.numbers.now (vec_items c.loop-chunk.elements) (chunks_rest c.loop-chunk.chunk-iterator) c.loop-chunk.invariant.1 c.in-Some.chunk.now (chunks_rest c.next.new.self) x _ step.1.0 is.0 is.1 c.in_ok-push.ensures.items,
     )
