@@ -1,4 +1,3 @@
 pub mod Equal
-pub mod Making
 pub mod Numbering
 pub mod Writing

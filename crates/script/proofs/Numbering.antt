@@ -18,7 +18,7 @@ between p m k n e low high =
     (leb_tells k m)
 
 -- a list that ends amid an element
-pub amid : (p m n : ℕ) → p * m < n → n < p * m + p → n % p ≡ 0 → ⊥
+amid : (p m n : ℕ) → p * m < n → n < p * m + p → n % p ≡ 0 → ⊥
 amid p m n low high e = between p m (n / p) n (omega (arith, div-add-mod n p)) low high
 
 -- and one that does not
@@ -30,10 +30,10 @@ module _ {E : Type 0} (parts : ℕ) (numbered : List ℕ → E → Type 0) (ns :
   counted : length now ≡ length xs + 1
   counted = ap length pushed ∙ length_push xs x
 
-  pub reached_more : start + parts ≡ parts * length now
+  reached_more : start + parts ≡ parts * length now
   reached_more = omega (arith, reached, mul-add parts (length xs) 1, mul-one parts, ap (λ n. parts * n) counted)
 
-  pub each_more : ((i : ℕ) (d : E) → i < length xs → numbered (take parts (drop (parts * i) ns)) (get_or xs i d)) → numbered (take parts (drop start ns)) x → (i : ℕ) (d : E) → i < length now → numbered (take parts (drop (parts * i) ns)) (get_or now i d)
+  each_more : ((i : ℕ) (d : E) → i < length xs → numbered (take parts (drop (parts * i) ns)) (get_or xs i d)) → numbered (take parts (drop start ns)) x → (i : ℕ) (d : E) → i < length now → numbered (take parts (drop (parts * i) ns)) (get_or now i d)
   each_more sofar here i d lt =
       let P : ℕ → Type 0 = λ i. numbered (take parts (drop (parts * i) ns)) (get_or now i d) in
       below_more P (length xs)

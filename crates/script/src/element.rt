@@ -47,6 +47,7 @@ fn only(numbers: &[usize]) -> Option<u64>
     Some(*number as u64)
 }
 
+// Residues and words have an impl each: one for both would overlap with that for pairs.
 impl Element for Residue {
     ghost parts = { 1 };
 

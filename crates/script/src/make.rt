@@ -21,6 +21,7 @@ pub(crate) fn blank_buffer(heap: Global, room: usize) -> Result<Vec<u8>, AllocEr
     Vec::from_elem(heap, BLANK, room)
 }
 
+// A refusal is an answer here like any other, so each result is matched: the one error is that memory is out.
 impl Session {
     // Makes a call. Only an accepted layout changes a slot, its own.
     pub fn make(&mut self, heap: Global, call: Call) -> Result<Answer, AllocError>

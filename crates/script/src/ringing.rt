@@ -14,6 +14,7 @@ use ring::{Pair, Residue, Word};
 use std::alloc::{AllocError, Global};
 
 // Makes a call at its ring kind.
+// The crates above have such a match too: a trait for what is done at a kind's type would want a struct and an impl for each.
 pub(crate) fn ring_answer(heap: Global, kind: Kind, call: RingCall) -> Result<Answer, AllocError>
     ensures { IfOk result (KindReply kind (ring_said call)) }
 {
