@@ -1,8 +1,8 @@
 // What the slots of a session hold.
-ghost use Rattle.std.specs.Prelude.{◌≡◌, ℕ, List, string_bytes, MatchResult};
+ghost use Rattle.std.specs.Prelude.{◌≡◌, ℕ, List, string_bytes};
 ghost use Rattle.layout.specs.Layout.{shape};
 ghost use Rattle.layout.specs.Shape.{empty_shape};
-ghost use Rattle.script.specs.Slots.{slot, placed, Same};
+ghost use Rattle.script.specs.Slots.{slot, placed, Leaves};
 
 use crate::session::Session;
 use layout::JaggedLayout;
@@ -28,7 +28,7 @@ impl Session {
 
     // Has a name hold a layout.
     pub(crate) fn hold(&mut self, name: String, layout: JaggedLayout) -> Result<(), AllocError>
-        ensures { MatchResult result (λ _. (other : List ℕ) → slot self.new other ≡ placed (slot self.old) (string_bytes name) (shape layout) other) (λ _. Same self.old self.new) }
+        ensures { Leaves result self.old self.new (placed (slot self.old) (string_bytes name) (shape layout)) }
     {
         self.slots.insert(name, layout)?;
         Ok(())
