@@ -11,4 +11,5 @@ pub mod Piece
 pub mod Reading
 pub mod Rows
 pub mod Table
+pub mod Texts
 pub mod Vector

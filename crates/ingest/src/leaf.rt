@@ -73,14 +73,9 @@ fn check_strided(
     // The last row is the only one that can leave the part.
     let required = first as u128 + (height as u128 - 1) * stride as u128 + 1;
     if required > available as u128 {
-        let required = if required > u64::MAX as u128 {
-            usize::MAX
-        } else {
-            required as usize
-        };
         return Err(LeafError::StrideOutOfRange {
             column,
-            required,
+            required: usize::try_from(required).unwrap_or(usize::MAX),
             available,
         });
     }

@@ -11,6 +11,7 @@ mod read;
 mod record;
 mod report;
 mod table;
+mod text;
 mod witness;
 mod write;
 
