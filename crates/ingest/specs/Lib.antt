@@ -2,7 +2,6 @@ pub mod Asked
 pub mod Charges
 pub mod Cuts
 pub mod Faults
-pub mod Found
 pub mod Leaves
 pub mod Order
 pub mod Parts
@@ -13,3 +12,4 @@ pub mod Rows
 pub mod Table
 pub mod Texts
 pub mod Vector
+pub mod Walks

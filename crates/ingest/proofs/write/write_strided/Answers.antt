@@ -3,20 +3,20 @@ use Rattle.std.proofs.lemmas.List.{get_or-map}
 use Rattle.ingest.proofs.Written.{row_more, row_le}
 use Rattle.ingest.proofs.write.write_strided.Goals as goal
 
-pub overflow_mul-out : goal.overflow_mul-out
-overflow_mul-out g c =
+pub overflow_mul-cell : goal.overflow_mul-cell
+overflow_mul-cell g c =
     let le = row_le c.loop-row.row (length c.args.out.now) c.args.stride (omega arith) in
     let last = c.requires (omega arith) in
     omega arith
 
-pub overflow_add-out : goal.overflow_add-out
-overflow_add-out g c =
+pub overflow_add-cell : goal.overflow_add-cell
+overflow_add-cell g c =
     let le = row_le c.loop-row.row (length c.args.out.now) c.args.stride (omega arith) in
     let last = c.requires (omega arith) in
     omega arith
 
-pub overflow_add-out-in-loop-row : goal.overflow_add-out-in-loop-row
-overflow_add-out-in-loop-row g c =
+pub overflow_add-cell-in-loop-row : goal.overflow_add-cell-in-loop-row
+overflow_add-cell-in-loop-row g c =
     let le = row_le c.loop-row.row (length c.args.out.now) c.args.stride (omega arith) in
     let last = c.requires (omega arith) in
     omega arith
