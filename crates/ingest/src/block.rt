@@ -10,6 +10,7 @@ pub(crate) struct Extent {
     pub(crate) words: usize,
 }
 
+// The blocks as they are lent: the cells, and the words of bits.
 #[derive(Clone, Copy)]
 pub(crate) struct Block<'a, R> {
     pub(crate) cells: &'a [R],
@@ -17,6 +18,7 @@ pub(crate) struct Block<'a, R> {
 }
 
 impl<'a, R: Ring> Block<'a, R> {
+    // How long they are.
     pub(crate) fn extent(&self) -> Extent
         ensures cells { result.cells ≡ length self.now.cells.now }
         ensures words { result.words ≡ length self.now.words.now }

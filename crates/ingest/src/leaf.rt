@@ -82,6 +82,7 @@ fn check_strided(
         return Err(LeafError::ZeroStride { column });
     }
     // The last row is the only one that can leave the part.
+    // An index is widened by `as`, since no `From` makes a `u128` of it.
     let required = first as u128 + (height as u128 - 1) * stride as u128 + 1;
     if required > available as u128 {
         return Err(LeafError::StrideOutOfRange {

@@ -45,6 +45,7 @@ impl<'a> Ordered<'a> {
         ensures { result ≡ verdict (columns_checks (shape layout.now) self.now.records.now extent.cells extent.words) tt }
     {
         for column in 0..self.sources {
+            // The layout tells a height by its column; its boundaries, taken two by two, would be no plainer.
             let expected = layout.column_height(column).unwrap();
             self.check_column(column, expected, extent)?;
         }
@@ -58,6 +59,7 @@ impl<'a> Ordered<'a> {
     {
         let mut report = IngestReport::padding(layout.dense_capacity() - layout.area());
         for column in 0..self.sources {
+            // As above, the height is told by the column.
             let rows = layout.column_height(column).unwrap();
             report.charge(self.pass_of(column), rows);
         }

@@ -20,6 +20,7 @@ pub fn check_order(table: &[Record], sources: usize) -> Result<(), JaggedIngestE
     ensures lowest { LowestWrong table.now sources (wrong_record table.now sources) }
 {
     // Where the next run begins; a sum of two indexes, so it can be past every index.
+    // An index is widened by `as`, since no `From` makes a `u128` of it.
     let mut next = sources as u128;
     for (record, entry) in table.iter().enumerate() {
         if record as u128 >= next || record >= MAX_RECORDS {
@@ -73,6 +74,7 @@ impl Record {
 }
 
 impl<'a> Ordered<'a> {
+    // Checks the order of a table.
     pub(crate) fn check(
         records: &'a [Record],
         sources: usize,
@@ -122,6 +124,7 @@ impl<'a> Ordered<'a> {
         Ok(())
     }
 
+    // Writes the heights of all columns to the front of the slice.
     fn put_heights(&self, out: &mut [usize])
         requires fit { (y : ℕ) → y < self.now.sources → height_of self.now.records.now y < 2 ^ 64 }
         requires room { self.now.sources ≤ length out.old }

@@ -11,6 +11,7 @@ use std::error::Error;
 use std::fmt;
 
 impl JaggedIngestError {
+    // The name alone.
     fn name(&self) -> &'static str
         ensures { result.now ≡ fault_name self.now }
     {

@@ -59,6 +59,7 @@ impl<'a, R: Ring> Block<'a, R> {
 
 impl<'a> Ordered<'a> {
     // Writes the rows of a run of records to the front of the buffer, and tells how many.
+    // The walk is written out: a step of `try_fold` changes only what it hands on, and one that holds the buffer would be no plainer.
     pub(crate) fn write_run<R: Ring>(
         &self,
         from: usize,

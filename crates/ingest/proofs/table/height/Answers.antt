@@ -7,4 +7,4 @@ use Rattle.ingest.proofs.table.height.Goals as goal
 pub returns-clause-parts : goal.returns-clause-parts
 returns-clause-parts c =
     let ordered = c.in_ok-ordered.ordered in
-    on_ok_always c.height_of.result (HeightsByParts c.args.table.now) (subst HeightsByParts c.in_ok-ordered.ensures.same.0 (heights_by_parts ordered.records.now ordered.sound))
+    on_ok_always _ (HeightsByParts c.args.table.now) (subst HeightsByParts c.in_ok-ordered.ensures.same.0 (heights_by_parts ordered.records.now ordered.sound))
