@@ -14,6 +14,7 @@ use crate::record::Record;
 use ring::Ring;
 
 // Row r is the cell at first + r × stride, counted from the place.
+#[tactic(auto, using(crate::proofs::Written::row_le))]
 fn write_strided<R: Ring>(cells: &[R], place: usize, first: usize, stride: usize, out: &mut [R])
     requires { 0 < length out.old → place + (first + (length out.old - 1) * stride) < length cells.now }
     ensures { (k : ℕ) → k < length out.old → slice_index_or (map R.Ring.value out.new) k R.Ring.ops.nought ≡ slice_index_or (map R.Ring.value cells.now) (place + (first + k * stride)) R.Ring.ops.nought }
