@@ -1,15 +1,11 @@
 -- A buffer whose first cells are weights by the first coordinates of a point. Assumes nothing.
-use Rattle.std.proofs.Common.{◌≡◌, ℕ, suc, ◌+◌, ◌-◌, ◌/◌, ◌^◌, ◌<◌, ◌≤◌, List, map, length, get_or, set, sym, ap, ◌∙◌, ap₂, pow-suc, div-one, add-one, arith}
-use native.Mathlib.Nat.{div-div-eq-div-mul, div-eq_of_lt}
+use Rattle.std.proofs.Common.{◌≡◌, ℕ, suc, ◌+◌, ◌-◌, ◌/◌, ◌^◌, ◌<◌, ◌≤◌, List, map, length, get_or, set, sym, ap, ◌∙◌, ap₂, div-one, add-one, arith}
+use native.Mathlib.Nat.{div-eq_of_lt}
 use Rattle.std.proofs.lemmas.List.{length-map, map-set, get_or-set_same}
 use Rattle.ring.specs.Operations.{Operations, Laws}
 use Rattle.selector.specs.Weights.{bit, factor, eq}
 use Rattle.selector.specs.Prefix.{Spread}
-use Rattle.selector.proofs.Fronts.{front, front_more}
-
--- half of what is left above e bits is what is left above e + 1
-half_left : (n e : ℕ) → n / 2 ^ suc e ≡ n / 2 ^ e / 2
-half_left n e = ap (λ x. n / x) (pow-suc 2 e) ∙ sym (div-div-eq-div-mul n (2 ^ e) 2)
+use Rattle.selector.proofs.Fronts.{front, front_more, half_left}
 
 module _ (K : Operations) (L : Laws K) (scale : K.Value) (point : List K.Value) where
   -- the first n cells are weights by the first k coordinates

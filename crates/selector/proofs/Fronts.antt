@@ -1,7 +1,8 @@
 -- Laws of weights: a coordinate more at the low end, and a point read from its low end. Assumes nothing.
-use Rattle.std.proofs.Common.{◌≡◌, ℕ, zero, suc, ◌+◌, ◌-◌, ◌/◌, ◌%◌, ◌^◌, ◌<◌, ◌≤◌, Bool, true, false, cond, eqb, ltb, List, length, get_or, sym, refl, ap, ◌∙◌, ap₂, div-one, arith, ltb-true, le-ltb, lt-ltb, ne_eqb, eqb-true}
-use native.Mathlib.Nat.{pow-succ', div-div-eq-div-mul}
+use Rattle.std.proofs.Common.{◌≡◌, ℕ, zero, suc, ◌+◌, ◌-◌, ◌/◌, ◌%◌, ◌^◌, ◌<◌, ◌≤◌, Bool, true, false, cond, eqb, ltb, List, length, get_or, sym, refl, ap, ◌∙◌, ap₂, div-one, pow-suc, add-one, arith, le-ltb, lt-ltb, ne_eqb, eqb-true}
+use native.Mathlib.Nat.{pow-succ', div-div-eq-div-mul, div-eq_of_lt}
 use borrow.Author.Tests.{eqb-false}
+use Rattle.std.proofs.lemmas.Bool.Decides.{nat_tests}
 use Rattle.ring.specs.Operations.{Operations, Laws}
 use Rattle.ring.specs.Algebra.{one-times, nought-times}
 use Rattle.selector.specs.Sums.{product_to}
@@ -13,24 +14,19 @@ use Rattle.selector.proofs.Sums.{product_same}
 abbrev pub front : (K : Operations) → List K.Value → ℕ → ℕ → K.Value
 front K point m i = cond (ltb i (2 ^ m)) (product_to K m (λ j. factor K (bit (m - 1 - j) i) (get_or point j K.one))) K.nought
 
+-- half of what is left above e bits is what is left above e + 1
+pub half_left : (n e : ℕ) → n / 2 ^ suc e ≡ n / 2 ^ e / 2
+half_left n e = ap (λ x. n / x) (pow-suc 2 e) ∙ sym (div-div-eq-div-mul n (2 ^ e) 2)
+
 -- bit j + 1 of i is bit j of its half
 bit_half : (j i : ℕ) → bit (suc j) i ≡ bit j (i / 2)
 bit_half j i = ap (λ x. eqb (x % 2) 1) (ap (λ x. i / x) (pow-succ' 2 j) ∙ sym (div-div-eq-div-mul i 2 (2 ^ j)))
 
--- two tests that hold together
-pub same_ltb : (a b c d : ℕ) → (a < b → c < d) → (c < d → a < b) → ltb a b ≡ ltb c d
-same_ltb a b c d there back = go (ltb c d) refl
-  where
-    go : (t : Bool) → ltb c d ≡ t → ltb a b ≡ ltb c d
-    go true is = lt-ltb a b (back (ltb-true c d is)) ∙ sym is
-    go false is = elim (ltb a b) as (λ t. ltb a b ≡ t → t ≡ ltb c d) [ true ↦ λ h. sym (lt-ltb c d (there (ltb-true a b h))) | false ↦ λ h. sym is ] refl
-
 half_below : (m i : ℕ) → ltb i (2 ^ suc m) ≡ ltb (i / 2) (2 ^ m)
-half_below m i = let two = pow-succ' 2 m in same_ltb i (2 ^ suc m) (i / 2) (2 ^ m) (λ h. omega arith) (λ h. omega arith)
+half_below m i = let two = pow-succ' 2 m in grind (arith, nat_tests)
 
 zero_test : (n : ℕ) → eqb n 0 ≡ ltb n 1
-zero_test zero = refl
-zero_test (suc n) = ne_eqb (suc n) 0 (λ e. omega arith) ∙ sym (le-ltb (suc n) 1 (omega arith))
+zero_test n = grind (arith, nat_tests)
 
 -- an odd number is not zero
 odd_apart : (i : ℕ) → bit 0 i ≡ true → i ≡ 0 → ⊥
@@ -38,8 +34,7 @@ odd_apart i odd none = let one : i / 1 % 2 ≡ 1 = eqb-true (i / 1 % 2) 1 odd in
 
 -- an even number is zero exactly where its half is
 even_half : (i : ℕ) → bit 0 i ≡ false → eqb (i / 2) 0 ≡ eqb i 0
-even_half i even =
-    zero_test (i / 2) ∙ same_ltb (i / 2) 1 i 1 (λ h. let not-one : i / 1 % 2 ≡ 1 → ⊥ = eqb-false (i / 1 % 2) 1 even in omega arith) (λ h. omega arith) ∙ sym (zero_test i)
+even_half i even = let not-one : i / 1 % 2 ≡ 1 → ⊥ = eqb-false (i / 1 % 2) 1 even in grind (arith, nat_tests)
 
 minus-nought : (K : Operations) (L : Laws K) (a : K.Value) → K.minus a K.nought ≡ a
 minus-nought K L a = sym (L.plus-nought _) ∙ L.minus_plus a K.nought
@@ -100,3 +95,26 @@ module _ (K : Operations) (L : Laws K) (point : List K.Value) where
   -- a point's weights, read from the lowest layer up
   pub upper-eq : (n i : ℕ) → length point ≤ n → upper K (coordinate K point) 0 n i ≡ eq K point i
   upper-eq n i deep = upper_front (length point) n 0 i (omega arith) deep
+
+  -- the weight that the coordinates from a layer up give to what is left of a number there
+  abbrev pub above : ℕ → ℕ → K.Value
+  above index layer = upper K (coordinate K point) layer (length point - layer) (index / 2 ^ layer)
+
+  pub above_all : (index : ℕ) → above index 0 ≡ eq K point index
+  above_all index = upper-eq (length point - 0) (index / 1) (omega arith) ∙ ap (eq K point) (div-one index)
+
+  pub above_none : (index layer : ℕ) → layer ≡ length point → index < 2 ^ length point → above index layer ≡ K.one
+  above_none index layer is inside =
+      let none : length point - layer ≡ 0 = omega arith in
+      let rest : index / 2 ^ layer ≡ 0 = ap (λ e. index / 2 ^ e) is ∙ div-eq_of_lt inside in
+      ap₂ (λ n i. upper K (coordinate K point) layer n i) none rest
+
+  -- a layer's coordinate joins what is multiplied so far
+  pub above_more : (index layer : ℕ) (product x : K.Value) → layer < length point → x ≡ get_or point (length point - 1 - layer) K.one → K.times (K.times product (factor K (bit layer index) x)) (above index (layer + 1)) ≡ K.times product (above index layer)
+  above_more index layer product x inside is =
+      let more : length point - layer ≡ suc (length point - suc layer) = omega arith in
+      let here : x ≡ coordinate K point layer = is ∙ sym (ap (λ b. cond b (get_or point (length point - 1 - layer) K.one) K.nought) (lt-ltb layer (length point) inside)) in
+      L.times_assoc product (factor K (bit layer index) x) (above index (layer + 1))
+      ∙ ap (K.times product) (ap (λ k. K.times (factor K (bit layer index) x) (above index k)) (add-one layer)
+      ∙ ap₂ K.times (ap₂ (factor K) (ap (λ y. eqb (y % 2) 1) (sym (div-one (index / 2 ^ layer)))) here) (ap (upper K (coordinate K point) (suc layer) (length point - suc layer)) (half_left index layer))
+      ∙ ap (λ n. upper K (coordinate K point) layer n (index / 2 ^ layer)) (sym more))

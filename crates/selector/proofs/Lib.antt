@@ -1,6 +1,7 @@
 pub mod Filled
 pub mod Fronts
 pub mod Places
+pub mod Reversed
 pub mod Runs
 pub mod Selectors
 pub mod Spreads

@@ -1,12 +1,14 @@
 -- A run of the automaton over one column, from the top layer down. Assumes nothing.
-use Rattle.std.proofs.Common.{◌≡◌, ℕ, zero, suc, ◌+◌, ◌-◌, ◌/◌, ◌%◌, ◌^◌, ◌<◌, ◌≤◌, Bool, true, false, cond, not, ◌&&◌, eqb, List, length, get_or, sym, refl, ap, ◌∙◌, ap₂, pow-suc, div-one, arith, pow_mono}
-use native.Mathlib.Nat.{div-div-eq-div-mul, div-eq_of_lt}
+use Rattle.std.proofs.Common.{◌≡◌, ℕ, zero, suc, ◌+◌, ◌-◌, ◌/◌, ◌^◌, ◌<◌, ◌≤◌, Bool, true, false, cond, not, ◌&&◌, List, map, length, get_or, take, sym, refl, ap, ◌∙◌, ap₂, arith, pow_mono}
+use native.Mathlib.Nat.{div-eq_of_lt}
+use Rattle.std.proofs.lemmas.List.{take-map, length-take-le, get_or-take}
 use lib.Pow.{pow-lt}
 use Rattle.ring.specs.Operations.{Operations, Laws}
 use Rattle.selector.specs.Automaton.{coordinate, upper, suffix, sum_bit, carry_out, less_out, stepped}
 use Rattle.selector.specs.Layers.{leading_to, column_sum}
 use Rattle.selector.specs.Weights.{bit, factor}
-use Rattle.selector.proofs.Fronts.{front, front_more, front_zero}
+use Rattle.selector.proofs.Fronts.{front, front_zero}
+use Rattle.selector.proofs.Sums.{product_same}
 use Rattle.selector.proofs.Steps.{suffix_step}
 use Rattle.selector.proofs.Suffixes.{suffix_top, suffix_bottom, leading_front}
 
@@ -16,6 +18,13 @@ stepped_same K row dense s e f g same c l = ap₂ K.plus (half false) (half true
   where
     half : (b : Bool) → K.times (K.times (factor K b row) (factor K (sum_bit b s c) dense)) (f (carry_out b s c) (less_out (sum_bit b s c) e l)) ≡ K.times (K.times (factor K b row) (factor K (sum_bit b s c) dense)) (g (carry_out b s c) (less_out (sum_bit b s c) e l))
     half b = ap (K.times (K.times (factor K b row) (factor K (sum_bit b s c) dense))) (same (carry_out b s c) (less_out (sum_bit b s c) e l))
+
+-- the leading coordinates by themselves
+pub leading_take : {A : Type 0} (K : Operations) (value : A → K.Value) (row : List A) (n m : ℕ) → n ≤ length row → n ≡ m → leading_to K (map value (take n row)) (length (take n row)) ≡ leading_to K (map value row) m
+leading_take K value row n m fits is =
+    ap (leading_to K (map value (take n row))) (length-take-le n row fits)
+    ∙ product_same K n _ _ (λ j h. ap (K.minus K.one) (ap (λ l. get_or l j K.one) (sym (take-map value n row)) ∙ get_or-take n (map value row) j K.one h))
+    ∙ ap (leading_to K (map value row)) is
 
 module _ (K : Operations) (L : Laws K) (row dense : List K.Value) (start end : ℕ) where
   -- the suffix weights at a layer, with as many layers above it as either point needs
@@ -55,14 +64,3 @@ module _ (K : Operations) (L : Laws K) (row dense : List K.Value) (start end : �
       let none : length row + (length dense + 1) - 0 ≡ length row + (length dense + 1) = omega arith in
       let wide : 2 ^ length row ≤ 2 ^ (length row + (length dense + 1) - 0) = pow_mono (omega arith) in
       ap (λ k. at_layer k false false) is ∙ suffix_bottom K L row dense start end (length row + (length dense + 1) - 0) (omega arith) (omega arith) (omega arith)
-
--- one bit more of a number's weight, from the highest down
-pub front_at : (K : Operations) (L : Laws K) (point : List K.Value) (index width k : ℕ) → k < width → front K point (suc k) (index / 2 ^ (width - (k + 1))) ≡ K.times (front K point k (index / 2 ^ (width - k))) (factor K (bit (width - 1 - k) index) (get_or point k K.one))
-front_at K L point index width k below =
-    let low : width - (k + 1) ≡ width - 1 - k = omega arith in
-    let high : width - k ≡ suc (width - 1 - k) = omega arith in
-    let e : ℕ = width - 1 - k in
-    let half : index / 2 ^ e / 2 ≡ index / 2 ^ (width - k) = div-div-eq-div-mul index (2 ^ e) 2 ∙ ap (λ x. index / x) (sym (pow-suc 2 e)) ∙ ap (λ x. index / 2 ^ x) (sym high) in
-    ap (λ x. front K point (suc k) (index / 2 ^ x)) low
-    ∙ front_more K L point k (index / 2 ^ e)
-    ∙ ap₂ (λ i b. K.times (front K point k i) (factor K b (get_or point k K.one))) half (ap (λ x. eqb (x % 2) 1) (div-one (index / 2 ^ e)))

@@ -1,22 +1,17 @@
 -- Writing the weights of one coordinate more over those of the coordinates before it. Assumes nothing.
-use Rattle.std.proofs.Common.{◌≡◌, ℕ, zero, suc, ◌+◌, ◌-◌, ◌*◌, ◌/◌, ◌%◌, ◌<◌, ◌≤◌, Bool, true, false, ltb, ◌≢◌, List, map, length, get_or, drop, set, sym, refl, ap, ◌∙◌, subst, ap₂, add-zero, arith, ltb-false, ltb-true, eq-eqb, ne_eqb}
+use Rattle.std.proofs.Common.{◌≡◌, ℕ, zero, suc, ◌+◌, ◌-◌, ◌*◌, ◌/◌, ◌%◌, ◌<◌, ◌≤◌, Bool, true, false, ltb, ◌≢◌, List, map, length, get_or, drop, set, sym, refl, ap, ◌∙◌, subst, ap₂, add-zero, arith, ltb-false, ltb-true}
 use Rattle.std.proofs.lemmas.List.{length-map, map-set, get_or-set_same, get_or-set_other, get_or-map, get_or-drop, drop-drop, drop-set-lt, length-set}
 use Rattle.ring.specs.Operations.{Operations, Laws}
 use Rattle.ring.specs.Algebra.{plus_cancel}
 use Rattle.selector.specs.Weights.{bit, factor}
 use Rattle.selector.specs.Prefix.{Spread}
+use Rattle.selector.proofs.Steps.{low_bit}
 
 -- a - a x is a (1 - x)
 pub minus-times : (K : Operations) (L : Laws K) (a x : K.Value) → K.minus a (K.times a x) ≡ K.times a (K.minus K.one x)
 minus-times K L a x =
     plus_cancel K L _ _ (K.times a x)
     (L.minus_plus a (K.times a x) ∙ sym (sym (L.times-plus a (K.minus K.one x) x) ∙ ap (K.times a) (L.minus_plus K.one x) ∙ L.times-one a))
-
-even_bit : (j m : ℕ) → m ≡ 2 * j → bit 0 m ≡ false
-even_bit j m is = ne_eqb (m / 1 % 2) 1 (λ e. omega arith)
-
-odd_bit : (j m : ℕ) → m ≡ 2 * j + 1 → bit 0 m ≡ true
-odd_bit j m is = eq-eqb (m / 1 % 2) 1 (omega arith)
 
 module _ (K : Operations) (L : Laws K) where
   -- a buffer whose cells below 2 i are as they were, and whose cells from 2 i on are spread
@@ -45,14 +40,14 @@ module _ (K : Operations) (L : Laws K) where
           ∙ is_down
           ∙ ap (K.minus old) is_up
           ∙ minus-times K L old x
-          ∙ ap₂ K.times (was ∙ ap (λ n. get_or before n K.nought) (sym place)) (ap (λ b. factor K b x) (sym (even_bit j m is)))
+          ∙ ap₂ K.times (was ∙ ap (λ n. get_or before n K.nought) (sym place)) (ap (λ b. factor K b x) (sym (low_bit false j m (omega arith))))
       cases m from to false t true u =
           let is : m ≡ 2 * j + 1 = omega (arith, ltb-false m (2 * j + 1) t, ltb-true m (2 * j + 2) u) in
           let place : m / 2 ≡ j = omega arith in
           ap (λ n. get_or (set (set now (2 * j) down) (2 * j + 1) up) n K.nought) is
           ∙ get_or-set_same (set now (2 * j) down) (2 * j + 1) up K.nought (simp length-set (omega arith))
           ∙ is_up
-          ∙ ap₂ K.times (was ∙ ap (λ n. get_or before n K.nought) (sym place)) (ap (λ b. factor K b x) (sym (odd_bit j m is)))
+          ∙ ap₂ K.times (was ∙ ap (λ n. get_or before n K.nought) (sym place)) (ap (λ b. factor K b x) (sym (low_bit true j m is)))
       cases m from to false t false u =
           let past = ltb-false m (2 * j + 2) u in
           let a : m ≢ 2 * j + 1 = omega arith in
@@ -97,7 +92,7 @@ module _ (K : Operations) (L : Laws K) where
           ∙ is_down
           ∙ ap (K.minus (value last)) is-product
           ∙ minus-times K L (value last) x
-          ∙ ap₂ K.times (ap value is_last ∙ sym (get_or-map value before half last K.nought (omega arith)) ∙ ap (λ n. get_or (map value before) n K.nought) (sym place)) (ap (λ b. factor K b x) (sym (even_bit half m is)))
+          ∙ ap₂ K.times (ap value is_last ∙ sym (get_or-map value before half last K.nought (omega arith)) ∙ ap (λ n. get_or (map value before) n K.nought) (sym place)) (ap (λ b. factor K b x) (sym (low_bit false half m (omega arith))))
 
   pub spread_odd : {A : Type 0} (value : A → K.Value) (x : K.Value) (wanted : ℕ) (before middle exit : List A) (last product down : A) → wanted % 2 ≡ 1 → wanted ≤ length before → length exit ≡ length before → middle ≡ set before (2 * (wanted / 2)) down → last ≡ get_or before (wanted / 2) last → value product ≡ K.times (value last) x → value down ≡ K.minus (value last) (value product) → Spread K x 0 (2 * (wanted / 2)) (map value middle) (map value exit) → drop (2 * (wanted / 2)) exit ≡ drop (2 * (wanted / 2)) middle → Spread K x 0 wanted (map value before) (map value exit) × (drop wanted exit ≡ drop wanted before)
   spread_odd value x wanted before middle exit last product down is_odd room long is-middle is_last is-product is_down pairs rest =

@@ -1,6 +1,6 @@
 -- One layer of the automaton: the suffix weights of a layer from those of the layer above. Assumes nothing.
-use Rattle.std.proofs.Common.{◌≡◌, ℕ, zero, suc, ◌+◌, ◌*◌, ◌/◌, ◌%◌, ◌^◌, ◌<◌, Bool, true, false, cond, eqb, [], ◌∷◌, sym, refl, ap, ◌∙◌, ap₂, pow-suc, arith, eq-eqb, ne_eqb}
-use native.Mathlib.Nat.{pow-succ', div-div-eq-div-mul}
+use Rattle.std.proofs.Common.{◌≡◌, ℕ, zero, suc, ◌+◌, ◌*◌, ◌/◌, ◌%◌, ◌^◌, ◌<◌, Bool, true, false, cond, eqb, [], ◌∷◌, sym, refl, ap, ◌∙◌, ap₂, arith, eq-eqb, ne_eqb}
+use native.Mathlib.Nat.{pow-succ'}
 use Rattle.std.proofs.lemmas.Bool.Decides.{nat_tests}
 use Rattle.ring.specs.Operations.{Operations, Laws}
 use Rattle.ring.specs.Algebra.{times-nought}
@@ -8,10 +8,11 @@ use Rattle.ring.specs.Solve.{at, ◌⊗◌, solve}
 use Rattle.selector.specs.Sums.{sum_to}
 use Rattle.selector.specs.Weights.{bit, factor}
 use Rattle.selector.specs.Automaton.{upper, digit, below, suffix, sum_bit, carry_out, less_out, stepped}
+use Rattle.selector.proofs.Fronts.{half_left}
 use Rattle.selector.proofs.Sums.{sum_same, sum-times, sum_twice}
 
 -- the low bit of 2 m + t
-low_bit : (t : Bool) (m n : ℕ) → n ≡ 2 * m + digit t → bit 0 n ≡ t
+pub low_bit : (t : Bool) (m n : ℕ) → n ≡ 2 * m + digit t → bit 0 n ≡ t
 low_bit true m n is = eq-eqb (n / 1 % 2) 1 (omega arith)
 low_bit false m n is = ne_eqb (n / 1 % 2) 1 (λ e. omega arith)
 
@@ -30,20 +31,12 @@ digit-mod x = go (x % 2) (omega arith)
 -- a number by its bit at a layer and what lies above
 pub split_layer : (n layer : ℕ) → n / 2 ^ layer ≡ 2 * (n / 2 ^ suc layer) + digit (bit layer n)
 split_layer n layer =
-    let up : n / 2 ^ suc layer ≡ n / 2 ^ layer / 2 = ap (λ x. n / x) (pow-suc 2 layer) ∙ sym (div-div-eq-div-mul n (2 ^ layer) 2) in
     let halves : n / 2 ^ layer ≡ 2 * (n / 2 ^ layer / 2) + n / 2 ^ layer % 2 = omega arith in
-    halves ∙ ap₂ (λ x y. 2 * x + y) (sym up) (sym (digit-mod (n / 2 ^ layer)))
+    halves ∙ ap₂ (λ x y. 2 * x + y) (sym (half_left n layer)) (sym (digit-mod (n / 2 ^ layer)))
 
 -- comparing 2 m + t with 2 q + e: the higher parts first, then the low bits, then what lies below
 compare_step : (m q : ℕ) (t e less : Bool) → below (2 * m + digit t) (2 * q + digit e) less ≡ below m q (less_out t e less)
-compare_step m q true true true = grind (arith, nat_tests)
-compare_step m q true true false = grind (arith, nat_tests)
-compare_step m q true false true = grind (arith, nat_tests)
-compare_step m q true false false = grind (arith, nat_tests)
-compare_step m q false true true = grind (arith, nat_tests)
-compare_step m q false true false = grind (arith, nat_tests)
-compare_step m q false false true = grind (arith, nat_tests)
-compare_step m q false false false = grind (arith, nat_tests)
+compare_step m q t e less = grind (arith, nat_tests)
 
 add_bits : (a b c : Bool) → digit a + digit b + digit c ≡ 2 * digit (carry_out a b c) + digit (sum_bit a b c)
 add_bits true true true = refl

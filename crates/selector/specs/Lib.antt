@@ -1,4 +1,5 @@
 pub mod Automaton
+pub mod FaultText
 pub mod Faults
 pub mod Layers
 pub mod Prefix

@@ -79,27 +79,57 @@ pub(crate) fn accepting<R: Ring>(weight: R) -> States<R>
     }
 }
 
-// The comparison's weights from those above, where the index bit is 0 and where it is 1, each with its product.
-fn blend<R: Ring>(
-    end: bool,
-    zero: R,
-    at_zero: &Compared<R>,
-    one: R,
-    at_one: &Compared<R>,
-) -> Compared<R>
-    ensures { (less : _) → compared_at R.Ring.ops R.Ring.value result less ≡ R.Ring.ops.plus (R.Ring.ops.times (R.Ring.value zero) (compared_at R.Ring.ops R.Ring.value at_zero.now (less_out false end less))) (R.Ring.ops.times (R.Ring.value one) (compared_at R.Ring.ops R.Ring.value at_one.now (less_out true end less))) }
+// What an index bit leads to: the weights above, and the product of the coordinates that they are taken with.
+#[derive(Clone, Copy)]
+struct Branch<'a, R> {
+    product: R,
+    above: &'a Compared<R>,
+}
+
+impl<R: Ring> Compared<R> {
+    // These weights, to be taken with a product.
+    fn by(&self, product: R) -> Branch<'_, R>
+        ensures product { result.product ≡ product }
+        ensures above { result.above.now ≡ self.now }
+    {
+        Branch {
+            product,
+            above: self,
+        }
+    }
+}
+
+impl<R: Ring> Branch<'_, R> {
+    // The weight where the index is not below the end further up.
+    fn level(&self) -> R
+        ensures { R.Ring.value result ≡ R.Ring.ops.times (R.Ring.value self.now.product) (R.Ring.value self.now.above.now.level) }
+    {
+        self.product.times(self.above.level)
+    }
+
+    // The weight where it is.
+    fn below(&self) -> R
+        ensures { R.Ring.value result ≡ R.Ring.ops.times (R.Ring.value self.now.product) (R.Ring.value self.now.above.now.below) }
+    {
+        self.product.times(self.above.below)
+    }
+}
+
+// The comparison's weights from those above, where the index bit is 0 and where it is 1.
+fn blend<R: Ring>(end: bool, zero: Branch<'_, R>, one: Branch<'_, R>) -> Compared<R>
+    ensures { (less : _) → compared_at R.Ring.ops R.Ring.value result less ≡ R.Ring.ops.plus (R.Ring.ops.times (R.Ring.value zero.entry.product) (compared_at R.Ring.ops R.Ring.value zero.entry.above.now (less_out false end less))) (R.Ring.ops.times (R.Ring.value one.entry.product) (compared_at R.Ring.ops R.Ring.value one.entry.above.now (less_out true end less))) }
 {
     if end {
-        let below = zero.times(at_zero.below);
+        let below = zero.below();
         Compared {
-            level: below.plus(one.times(at_one.level)),
-            below: below.plus(one.times(at_one.below)),
+            level: below.plus(one.level()),
+            below: below.plus(one.below()),
         }
     } else {
-        let level = one.times(at_one.level);
+        let level = one.level();
         Compared {
-            level: zero.times(at_zero.level).plus(level),
-            below: zero.times(at_zero.below).plus(level),
+            level: zero.level().plus(level),
+            below: zero.below().plus(level),
         }
     }
 }
@@ -116,25 +146,19 @@ pub(crate) fn step<R: Ring>(
     // row bit and index bit differ exactly where one unit is added to the row's
     let one = blend(
         end,
-        layer.row_alone,
-        &above.carried,
-        layer.dense_alone,
-        &above.plain,
+        above.carried.by(layer.row_alone),
+        above.plain.by(layer.dense_alone),
     );
     if start {
+        let carried = &above.carried;
         States {
             plain: one,
-            carried: blend(
-                end,
-                layer.neither,
-                &above.carried,
-                layer.both,
-                &above.carried,
-            ),
+            carried: blend(end, carried.by(layer.neither), carried.by(layer.both)),
         }
     } else {
+        let plain = &above.plain;
         States {
-            plain: blend(end, layer.neither, &above.plain, layer.both, &above.plain),
+            plain: blend(end, plain.by(layer.neither), plain.by(layer.both)),
             carried: one,
         }
     }

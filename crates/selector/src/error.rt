@@ -1,6 +1,10 @@
 // The faults of the selector's calls.
-ghost use Rattle.std.specs.Prelude.{◌≡◌};
+ghost use Rattle.std.specs.Prelude.{◌≡◌, Some};
 ghost use Rattle.selector.specs.Faults.{fault_number};
+ghost use Rattle.selector.specs.FaultText.{selector_fault_fields};
+
+use std::error::Error;
+use std::fmt;
 
 #[derive(Clone, Copy, Debug, PartialEq, Eq)]
 pub enum JaggedError {
@@ -27,3 +31,34 @@ impl JaggedError {
         }
     }
 }
+
+// The name of the fault and its fields, each after a space.
+impl fmt::Display for JaggedError {
+    ghost output = { λ fault. Some (selector_fault_fields fault) };
+
+    fn fmt<W: fmt::Write>(&self, f: &mut fmt::Formatter<W>) -> fmt::Result {
+        match self {
+            JaggedError::RowPointWidthMismatch { expected, actual } => write!(
+                f,
+                "RowPointWidthMismatch expected={expected} actual={actual}"
+            ),
+            JaggedError::ColumnPointWidthMismatch { expected, actual } => write!(
+                f,
+                "ColumnPointWidthMismatch expected={expected} actual={actual}"
+            ),
+            JaggedError::DensePointWidthMismatch { expected, actual } => write!(
+                f,
+                "DensePointWidthMismatch expected={expected} actual={actual}"
+            ),
+            JaggedError::BufferTooShort {
+                required,
+                available,
+            } => write!(
+                f,
+                "BufferTooShort required={required} available={available}"
+            ),
+        }
+    }
+}
+
+impl Error for JaggedError {}

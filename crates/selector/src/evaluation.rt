@@ -2,14 +2,14 @@
 ghost use Rattle.std.specs.Prelude.{◌≡◌, ◌+◌, ◌-◌, ◌^◌, ◌<◌, ◌≤◌, map, length, OnOk};
 ghost use Rattle.ring.specs.Checks.{verdict, on_ok};
 ghost use Rattle.layout.specs.Layout.{shape};
-ghost use Rattle.layout.specs.Shape.{columns};
 ghost use Rattle.selector.specs.Faults.{evaluate_checks, dense_checks};
 ghost use Rattle.selector.specs.Layers.{leading_to, column_sum};
 ghost use Rattle.selector.specs.Selector.{selector, Extends};
 
 use crate::automaton::{accepting, coordinate_at, layer_of, step};
 use crate::error::JaggedError;
-use crate::point::{JaggedPoint, check_point};
+use crate::fitted::FittedPoint;
+use crate::point::JaggedPoint;
 use crate::weights::{bit_at, weight_at};
 use layout::JaggedLayout;
 use ring::Ring;
@@ -23,9 +23,9 @@ pub fn evaluate<R: Ring>(
     ensures answer { on_ok R.Ring.value result ≡ verdict (evaluate_checks (shape layout.now) (length point.now.row.now) (length point.now.column.now) (length dense.now)) (selector R.Ring.ops (shape layout.now) (map R.Ring.value point.now.row.now) (map R.Ring.value point.now.column.now) (map R.Ring.value dense.now)) }
     ensures extends { OnOk result (Extends R.Ring.ops (shape layout.now) (map R.Ring.value point.now.row.now) (map R.Ring.value point.now.column.now) (map R.Ring.value dense.now)) }
 {
-    check_point(layout, point.row().len(), point.column().len())?;
+    let fitted = FittedPoint::new(layout, point)?;
     check_dense(layout, dense.len())?;
-    Ok(sum_columns(layout, point.row(), point.column(), dense))
+    Ok(fitted.sum_columns(dense))
 }
 
 // That the dense point has as many coordinates as the layout has dense variables.
@@ -40,22 +40,23 @@ fn check_dense(layout: &JaggedLayout, actual: usize) -> Result<(), JaggedError>
     Ok(())
 }
 
-// Each column's weight by what its rows add up to.
-fn sum_columns<R: Ring>(layout: &JaggedLayout, row: &[R], column: &[R], dense: &[R]) -> R
-    requires rows { length row.now ≡ (shape layout.now).rows }
-    requires columns { 2 ^ length column.now ≡ columns (shape layout.now) }
-    requires dense { length dense.now ≡ (shape layout.now).dense }
-    ensures sum { R.Ring.value result ≡ selector R.Ring.ops (shape layout.now) (map R.Ring.value row.now) (map R.Ring.value column.now) (map R.Ring.value dense.now) }
-    ensures extends { Extends R.Ring.ops (shape layout.now) (map R.Ring.value row.now) (map R.Ring.value column.now) (map R.Ring.value dense.now) }
-{
-    let boundaries = layout.cumulative_heights();
-    let leading = leading_of(row, row.len().saturating_sub(dense.len() + 1));
-    let mut sum = R::zero();
-    for y in 0..layout.num_columns() {
-        let rows = column_sum(row, dense, leading, boundaries[y], boundaries[y + 1]);
-        sum = sum.plus(weight_at(column, y).times(rows));
+impl<R: Ring> FittedPoint<'_, R> {
+    // Each column's weight by what its rows add up to.
+    fn sum_columns(&self, dense: &[R]) -> R
+        requires dense { length dense.now ≡ (shape self.now.layout.now).dense }
+        ensures sum { R.Ring.value result ≡ selector R.Ring.ops (shape self.now.layout.now) (map R.Ring.value self.now.row.now) (map R.Ring.value self.now.column.now) (map R.Ring.value dense.now) }
+        ensures extends { Extends R.Ring.ops (shape self.now.layout.now) (map R.Ring.value self.now.row.now) (map R.Ring.value self.now.column.now) (map R.Ring.value dense.now) }
+    {
+        let boundaries = self.layout.cumulative_heights();
+        let above = self.row.len().saturating_sub(dense.len() + 1);
+        let leading = leading_of(&self.row[..above]);
+        let mut sum = R::zero();
+        for (y, (start, end)) in boundaries.iter().zip(&boundaries[1..]).enumerate() {
+            let rows = column_sum(self.row, dense, leading, *start, *end);
+            sum = sum.plus(weight_at(self.column, y).times(rows));
+        }
+        sum
     }
-    sum
 }
 
 // What the rows of a column from start to end add up to, each by its row weight and the dense weight of its place.
@@ -68,6 +69,7 @@ fn column_sum<R: Ring>(row: &[R], dense: &[R], leading: R, start: usize, end: us
     ensures { R.Ring.value result ≡ column_sum R.Ring.ops (map R.Ring.value row.now) (map R.Ring.value dense.now) start end }
 {
     let mut states = accepting(leading);
+    // a layer reads two points from their ends, with zeros above them, and bits of two numbers: its number serves all four as no iterator does
     // the layer above the dense coordinates reads the end's highest bit, which is set where a column ends at the capacity
     for layer in (0..dense.len() + 1).rev() {
         let products = layer_of(coordinate_at(row, layer), coordinate_at(dense, layer));
@@ -76,14 +78,13 @@ fn column_sum<R: Ring>(row: &[R], dense: &[R], leading: R, start: usize, end: us
     states.plain.level
 }
 
-// The product of one minus each of the first coordinates: what is left of the row weights above the layers.
-fn leading_of<R: Ring>(row: &[R], count: usize) -> R
-    requires { count ≤ length row.now }
-    ensures { R.Ring.value result ≡ leading_to R.Ring.ops (map R.Ring.value row.now) count }
+// The product of one minus each coordinate: what is left of the row weights above the layers.
+fn leading_of<R: Ring>(row: &[R]) -> R
+    ensures { R.Ring.value result ≡ leading_to R.Ring.ops (map R.Ring.value row.now) (length row.now) }
 {
     let mut product = R::one();
-    for j in 0..count {
-        product = product.times(R::one().minus(row[j]));
+    for x in row {
+        product = product.times(R::one().minus(*x));
     }
     product
 }

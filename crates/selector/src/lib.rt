@@ -4,6 +4,7 @@
 mod automaton;
 mod error;
 mod evaluation;
+mod fitted;
 mod point;
 mod tables;
 mod weights;

@@ -1,12 +1,5 @@
 // A point of the sparse table: row and column coordinates, lent.
-ghost use Rattle.std.specs.Prelude.{◌≡◌, ◌^◌, OnOk};
-ghost use Rattle.ring.specs.Checks.{verdict};
-ghost use Rattle.layout.specs.Layout.{shape};
-ghost use Rattle.layout.specs.Shape.{columns};
-ghost use Rattle.selector.specs.Faults.{point_checks};
-
-use crate::error::JaggedError;
-use layout::JaggedLayout;
+ghost use Rattle.std.specs.Prelude.{◌≡◌};
 
 #[derive(Clone, Copy)]
 pub struct JaggedPoint<'a, R> {
@@ -35,30 +28,4 @@ impl<'a, R> JaggedPoint<'a, R> {
     {
         self.column
     }
-}
-
-// That the point has as many coordinates as the layout has row and column variables.
-pub(crate) fn check_point(
-    layout: &JaggedLayout,
-    row: usize,
-    column: usize,
-) -> Result<(), JaggedError>
-    ensures answer { result ≡ verdict (point_checks (shape layout.now) row column) tt }
-    ensures widths { OnOk result ((row ≡ (shape layout.now).rows) × (2 ^ column ≡ columns (shape layout.now))) }
-{
-    let expected = layout.row_variables();
-    if row != expected {
-        return Err(JaggedError::RowPointWidthMismatch {
-            expected,
-            actual: row,
-        });
-    }
-    let expected = layout.column_variables();
-    if column != expected {
-        return Err(JaggedError::ColumnPointWidthMismatch {
-            expected,
-            actual: column,
-        });
-    }
-    Ok(())
 }

@@ -8,7 +8,8 @@ ghost use Rattle.selector.specs.Selector.{Table, Columns};
 ghost use Rattle.selector.specs.Weights.{eq};
 
 use crate::error::JaggedError;
-use crate::point::{JaggedPoint, check_point};
+use crate::fitted::FittedPoint;
+use crate::point::JaggedPoint;
 use crate::weights::{weigh, weight_at};
 use layout::JaggedLayout;
 use ring::Ring;
@@ -23,9 +24,9 @@ pub fn table<R: Ring>(
     ensures cells { MatchResult result (λ _. Table R.Ring.ops (shape layout.now) (map R.Ring.value point.now.row.now) (map R.Ring.value point.now.column.now) (map R.Ring.value buffer.new)) (λ _. buffer.new ≡ buffer.old) }
     ensures kept { drop (capacity (shape layout.now)) buffer.new ≡ drop (capacity (shape layout.now)) buffer.old }
 {
-    check_point(layout, point.row().len(), point.column().len())?;
+    let fitted = FittedPoint::new(layout, point)?;
     check_room(layout, buffer.len())?;
-    write_table(layout, point.row(), point.column(), buffer);
+    fitted.write_table(&mut buffer[..layout.dense_capacity()]);
     Ok(())
 }
 
@@ -44,58 +45,46 @@ fn check_room(layout: &JaggedLayout, available: usize) -> Result<(), JaggedError
     Ok(())
 }
 
-fn write_table<R: Ring>(layout: &JaggedLayout, row: &[R], column: &[R], buffer: &mut [R])
-    requires rows { length row.now ≡ (shape layout.now).rows }
-    requires columns { 2 ^ length column.now ≡ columns (shape layout.now) }
-    requires room { capacity (shape layout.now) ≤ length buffer.old }
-    ensures cells { Table R.Ring.ops (shape layout.now) (map R.Ring.value row.now) (map R.Ring.value column.now) (map R.Ring.value buffer.new) }
-    ensures kept { drop (capacity (shape layout.now)) buffer.new ≡ drop (capacity (shape layout.now)) buffer.old }
-{
-    fill_columns(layout, row, column, buffer);
-    blank(layout.area(), layout.dense_capacity(), buffer);
-}
+impl<R: Ring> FittedPoint<'_, R> {
+    // Writes the table over as many cells as the capacity.
+    fn write_table(&self, cells: &mut [R])
+        requires { length cells.old ≡ capacity (shape self.now.layout.now) }
+        ensures table { Table R.Ring.ops (shape self.now.layout.now) (map R.Ring.value self.now.row.now) (map R.Ring.value self.now.column.now) (map R.Ring.value cells.new) }
+        ensures lawful { Lawful (shape self.now.layout.now) }
+    {
+        self.fill_columns(cells);
+        blank(&mut cells[self.layout.area()..]);
+    }
 
-// Writes each column's weights over its interval.
-fn fill_columns<R: Ring>(layout: &JaggedLayout, row: &[R], column: &[R], buffer: &mut [R])
-    requires rows { length row.now ≡ (shape layout.now).rows }
-    requires columns { 2 ^ length column.now ≡ columns (shape layout.now) }
-    requires room { capacity (shape layout.now) ≤ length buffer.old }
-    ensures live { Columns R.Ring.ops (shape layout.now) (columns (shape layout.now)) (map R.Ring.value row.now) (map R.Ring.value column.now) (map R.Ring.value buffer.new) }
-    ensures kept { drop (area (shape layout.now)) buffer.new ≡ drop (area (shape layout.now)) buffer.old }
-    ensures lawful { Lawful (shape layout.now) }
-{
-    let boundaries = layout.cumulative_heights();
-    for y in 0..layout.num_columns() {
-        fill_column(
-            weight_at(column, y),
-            row,
-            boundaries[y],
-            boundaries[y + 1],
-            buffer,
-        );
+    // Writes each column's weights over its interval.
+    fn fill_columns(&self, cells: &mut [R])
+        requires { length cells.old ≡ capacity (shape self.now.layout.now) }
+        ensures live { Columns R.Ring.ops (shape self.now.layout.now) (columns (shape self.now.layout.now)) (map R.Ring.value self.now.row.now) (map R.Ring.value self.now.column.now) (map R.Ring.value cells.new) }
+        ensures lawful { Lawful (shape self.now.layout.now) }
+    {
+        let boundaries = self.layout.cumulative_heights();
+        for (y, (start, end)) in boundaries.iter().zip(&boundaries[1..]).enumerate() {
+            let weight = weight_at(self.column, y);
+            fill_column(weight, self.row, *start, *end, cells);
+        }
     }
 }
 
 // Writes one column's weights over the interval from start to end.
-fn fill_column<R: Ring>(weight: R, row: &[R], start: usize, end: usize, buffer: &mut [R])
+fn fill_column<R: Ring>(weight: R, row: &[R], start: usize, end: usize, cells: &mut [R])
     requires ordered { start ≤ end }
-    requires room { end ≤ length buffer.old }
+    requires room { end ≤ length cells.old }
     requires tall { end - start ≤ 2 ^ length row.now }
-    ensures cells { (i : ℕ) → i < end - start → slice_index_or (map R.Ring.value buffer.new) (start + i) R.Ring.ops.nought ≡ R.Ring.ops.times (eq R.Ring.ops (map R.Ring.value row.now) i) (R.Ring.value weight) }
-    ensures low { (i : ℕ) → i < start → slice_index_or (map R.Ring.value buffer.new) i R.Ring.ops.nought ≡ slice_index_or (map R.Ring.value buffer.old) i R.Ring.ops.nought }
-    ensures kept { drop end buffer.new ≡ drop end buffer.old }
+    ensures weights { (i : ℕ) → i < end - start → slice_index_or (map R.Ring.value cells.new) (start + i) R.Ring.ops.nought ≡ R.Ring.ops.times (eq R.Ring.ops (map R.Ring.value row.now) i) (R.Ring.value weight) }
+    ensures low { (i : ℕ) → i < start → slice_index_or (map R.Ring.value cells.new) i R.Ring.ops.nought ≡ slice_index_or (map R.Ring.value cells.old) i R.Ring.ops.nought }
 {
-    weigh(weight, row, &mut buffer[start..end]);
+    weigh(weight, row, &mut cells[start..end]);
 }
 
-// Sets the cells from one place up to another to zero.
-fn blank<R: Ring>(from: usize, to: usize, buffer: &mut [R])
-    requires { to ≤ length buffer.old }
-    ensures zero { (i : ℕ) → from ≤ i → i < to → slice_index_or (map R.Ring.value buffer.new) i R.Ring.ops.nought ≡ R.Ring.ops.nought }
-    ensures low { (i : ℕ) → i < from → slice_index_or (map R.Ring.value buffer.new) i R.Ring.ops.nought ≡ slice_index_or (map R.Ring.value buffer.old) i R.Ring.ops.nought }
-    ensures kept { drop to buffer.new ≡ drop to buffer.old }
+// Sets cells to zero.
+fn blank<R: Ring>(cells: &mut [R])
+    ensures { (i : ℕ) → i < length cells.old → slice_index_or (map R.Ring.value cells.new) i R.Ring.ops.nought ≡ R.Ring.ops.nought }
 {
-    for i in from..to {
-        buffer[i] = R::zero();
-    }
+    let zero = R::zero();
+    cells.fill_with(|| zero);
 }

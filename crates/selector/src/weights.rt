@@ -27,8 +27,8 @@ pub(crate) fn weigh<R: Ring>(scale: R, point: &[R], buffer: &mut [R]) -> usize
     buffer[0] = scale;
     // the numbers that are written differ in their lowest bits alone; the coordinates above those multiply the first cell
     let width = point.len();
-    for k in 0..width {
-        spread(point[k], shifted(count - 1, width - 1 - k) + 1, buffer);
+    for (k, x) in point.iter().enumerate() {
+        spread(*x, shifted(count - 1, width - 1 - k) + 1, buffer);
     }
     count
 }
@@ -40,9 +40,8 @@ pub(crate) fn weight_at<R: Ring>(point: &[R], index: usize) -> R
     ensures { R.Ring.value result ≡ eq R.Ring.ops (map R.Ring.value point.now) index }
 {
     let mut product = R::one();
-    let width = point.len();
-    for k in 0..width {
-        product = product.times(factor_of(bit_at(index, width - 1 - k), point[k]));
+    for (layer, x) in point.iter().rev().enumerate() {
+        product = product.times(factor_of(bit_at(index, layer), *x));
     }
     product
 }
@@ -73,7 +72,7 @@ fn weight_count(width: usize, cells: usize) -> usize
     }
 }
 
-// What is left of a number above its lowest bits.
+// What is left of a number above its lowest bits, which may be more than checked_shr has a number for.
 fn shifted(number: usize, bits: usize) -> usize
     ensures { result ≡ number / 2 ^ bits }
 {
@@ -100,6 +99,7 @@ fn spread_pairs<R: Ring>(x: R, half: usize, buffer: &mut [R])
     ensures cells { Spread R.Ring.ops (R.Ring.value x) 0 (2 * half) (map R.Ring.value buffer.old) (map R.Ring.value buffer.new) }
     ensures kept { drop (2 * half) buffer.new ≡ drop (2 * half) buffer.old }
 {
+    // a pair's cells and the cell that it comes from lie in one buffer at places that move apart, so that no iterator lends all three
     for i in (0..half).rev() {
         let old = buffer[i];
         let upper = old.times(x);

@@ -1,8 +1,9 @@
-use Rattle.std.proofs.Common.{◌≡◌, ◌+◌, ◌-◌, map, length, drop, set, sym, refl, ap, ◌∙◌, arith}
-use Rattle.std.proofs.lemmas.List.{length-map, get_or-map, drop-set-lt, drop-drop}
+use Rattle.std.proofs.Common.{◌+◌, ◌-◌, ◌≤◌, map, length, set, sym, refl, ap, ◌∙◌, arith}
+use Rattle.std.proofs.lemmas.List.{length-map, get_or-map, drop-set-lt}
 use Rattle.std.proofs.lemmas.Nat.{shr_le}
 use Rattle.selector.specs.Weights.{eq}
 use Rattle.selector.proofs.Filled.{filled_first, filled_more, filled_all, first_cell}
+use Rattle.selector.proofs.Places.{drop_more}
 use Rattle.selector.proofs.weights.weigh.Goals as goal
 
 pub loop-k-init : goal.loop-k-init
@@ -15,9 +16,9 @@ loop-k-preserved g c =
     let v = g.R.Ring.value in
     let count = c.weight_count-count.result in
     let wanted = c.shifted.result + 1 in
-    let split : wanted + (count - wanted) ≡ count = omega (arith, c.shifted.ensures, shr_le (count - 1) (length c.args.point.now - 1 - c.loop-k.k)) in (
+    let few : wanted ≤ count = omega (arith, c.shifted.ensures, shr_le (count - 1) (length c.args.point.now - 1 - c.loop-k.k)) in (
       filled_more K g.met.R.Ring.lawful _ (map v c.args.point.now) count (length c.args.point.now) c.loop-k.k wanted (v c.index-point-k.result) (map v c.loop-k.buffer) (map v c.spread.new.buffer) (omega arith) (ap v c.index-point-k.is ∙ sym (get_or-map v c.args.point.now c.loop-k.k c.index-point-k.result K.one (omega arith))) (ap (λ n. n + 1) c.shifted.ensures) c.spread.ensures.cells c.loop-k.invariant.0,
-      ap (λ n. drop n c.spread.new.buffer) (sym split) ∙ sym (drop-drop (count - wanted) wanted c.spread.new.buffer) ∙ ap (drop (count - wanted)) c.spread.ensures.kept ∙ drop-drop (count - wanted) wanted c.loop-k.buffer ∙ ap (λ n. drop n c.loop-k.buffer) split ∙ c.loop-k.invariant.1,
+      drop_more wanted count c.spread.new.buffer c.loop-k.buffer few c.spread.ensures.kept ∙ c.loop-k.invariant.1,
     )
 
 pub returns : goal.returns
