@@ -1,14 +1,13 @@
 -- Numbers written one after the other, and what their bytes tell. Assumes nothing.
-use Rattle.std.proofs.Common.{◌≡◌, ℕ, zero, suc, ◌+◌, ◌*◌, ◌/◌, ◌%◌, ◌^◌, ◌<◌, ◌≤◌, List, [], ◌∷◌, ◌++◌, map, length, get_or, take, drop, sym, refl, ap, ◌∙◌, mod-eq_of_lt, pow-suc, arith}
-use native.Mathlib.Nat.{pow-succ'}
-use lib.Arith.{mod-mul}
+use Rattle.std.proofs.Common.{◌≡◌, ℕ, ◌+◌, ◌*◌, ◌^◌, ◌<◌, ◌≤◌, List, [], ◌∷◌, ◌++◌, map, length, get_or, take, drop, sym, refl, ap, ◌∙◌, arith}
 use lib.Seq.{paste}
 use Rattle.std.specs.List.{range_with_len, flat_map, AllByRecursion as All}
 use Rattle.std.proofs.lemmas.Nat.{pow_below}
 use Rattle.std.proofs.lemmas.List.FromFn.{length-map-range_with_len}
 use Rattle.std.proofs.lemmas.List.{append_assoc, take_all, take_at, drop_at, drop-drop, length-append, length-take-le, flat_map_more, take_more}
 use Rattle.std.proofs.lemmas.List.Sums.{sum_by-take-le}
-use Rattle.ring.specs.Bytes.{big_endian, eight, over}
+use Rattle.ring.specs.Bytes.{eight, over}
+use Rattle.ring.specs.Spellings.{same_from_eight}
 use Rattle.layout.specs.Encoding.{layout_bytes, layout_length, BytesTell}
 use Rattle.layout.specs.Shape.{Shape, Lawful, columns, start, boundaries}
 use Rattle.layout.proofs.Shapes.{same_shape, heights_tell}
@@ -43,29 +42,12 @@ length_numbers (n ∷ ns) = omega (arith, length_numbers ns)
 pub numbers_more : (ns : List ℕ) (i : ℕ) → i < length ns → flat_map eight (take (i + 1) ns) ≡ flat_map eight (take i ns) ++ eight (get_or ns i 0)
 numbers_more ns i h = ap (flat_map eight) (take_more ns i 0 h) ∙ sym (flat_map_more eight [] (take i ns) (get_or ns i 0))
 
-powers_of_256 : (k : ℕ) → 0 < 256 ^ k
-powers_of_256 zero = omega arith
-powers_of_256 (suc k) = omega (arith, powers_of_256 k, pow-suc 256 k)
-
--- equal bytes are of equal numbers
-bytes_tell : (k m n : ℕ) → big_endian k m ≡ big_endian k n → m % 256 ^ k ≡ n % 256 ^ k
-bytes_tell zero m n h = omega arith
-bytes_tell (suc k) m n h =
-    let some = powers_of_256 k in
-    let base = pow-succ' 256 k in
-    let low = bytes_tell k m n (ap (drop 1) h) in
-    let digit = ap (λ l. get_or l 0 0) h in
-    ap (λ b. m % b) base ∙ mod-mul m (omega arith) some ∙ ap (λ x. x * 256 ^ k + m % 256 ^ k) digit ∙ ap (λ x. (n / 256 ^ k % 256) * 256 ^ k + x) low ∙ sym (mod-mul n (omega arith) some) ∙ sym (ap (λ b. n % b) base)
-
-eight_tells : (m n : ℕ) → m < 2 ^ 64 → n < 2 ^ 64 → eight m ≡ eight n → m ≡ n
-eight_tells m n p q h = sym (mod-eq_of_lt p) ∙ bytes_tell 8 m n h ∙ mod-eq_of_lt q
-
 numbers_tell : (ms ns : List ℕ) → All (λ x. x < 2 ^ 64) ms → All (λ x. x < 2 ^ 64) ns → flat_map eight ms ≡ flat_map eight ns → ms ≡ ns
 numbers_tell [] [] p q h = refl
 numbers_tell [] (n ∷ ns) p q h = absurd (omega (arith, ap length h))
 numbers_tell (m ∷ ms) [] p q h = absurd (omega (arith, ap length h))
 numbers_tell (m ∷ ms) (n ∷ ns) p q h =
-    let first = eight_tells m n p.0 q.0 (ap (take 8) h) in
+    let first = same_from_eight m n p.0 q.0 (ap (take 8) h) in
     let rest = numbers_tell ms ns p.1 q.1 (ap (drop 8) h) in
     cc
 
@@ -100,17 +82,13 @@ pub bytes_long : (S : Shape) → length (layout_bytes S) ≡ layout_length S
 unfolding layout_bytes
 bytes_long S = omega (arith, length_numbers (boundaries S), length-map-range_with_len (start S) 0 (columns S + 1))
 
--- three numbers and the boundaries, each written right after the one before
-pub written : (S : Shape) (d₀ d₁ d₂ d₃ d₄ bs : List ℕ) → 24 ≤ length d₀ → bs ≡ boundaries S → d₁ ≡ paste d₀ 0 (eight S.rows) 8 → d₂ ≡ paste d₁ 8 (eight S.dense) 8 → d₃ ≡ paste d₂ 16 (eight (columns S + 1)) 8 → d₄ ≡ paste d₃ 24 (flat_map eight bs) (8 * length bs) → d₄ ≡ over (layout_bytes S) d₀
+-- the three numbers at the front, and the boundaries right after them
+pub written : (S : Shape) (d₀ d₁ d₂ bs : List ℕ) → 24 ≤ length d₀ → bs ≡ boundaries S → d₁ ≡ paste d₀ 0 (flat_map eight (S.rows ∷ S.dense ∷ (columns S + 1) ∷ [])) 24 → d₂ ≡ paste d₁ 24 (flat_map eight bs) (8 * length bs) → d₂ ≡ over (layout_bytes S) d₀
 unfolding layout_bytes
-written S d₀ d₁ d₂ d₃ d₄ bs fits same rows dense count rest =
-    let r = eight S.rows in
-    let d = eight S.dense in
-    let c = eight (columns S + 1) in
-    let two = dense ∙ ap (λ b. paste b 8 d 8) rows ∙ paste_more d₀ r d 0 8 8 refl refl (omega arith) in
-    let three = count ∙ ap (λ b. paste b 16 c 8) two ∙ paste_more d₀ (r ++ d) c 0 16 8 refl refl (omega arith) in
+written S d₀ d₁ d₂ bs fits same head rest =
+    let three = flat_map eight (S.rows ∷ S.dense ∷ (columns S + 1) ∷ []) in
     rest
-    ∙ ap (λ b. paste b 24 (flat_map eight bs) (8 * length bs)) three
-    ∙ paste_more d₀ ((r ++ d) ++ c) (flat_map eight bs) 0 24 (8 * length bs) refl (length_numbers bs) (omega arith)
-    ∙ paste_over d₀ (((r ++ d) ++ c) ++ flat_map eight bs) (24 + 8 * length bs) (omega (arith, length_numbers bs))
-    ∙ ap (λ l. over (((r ++ d) ++ c) ++ flat_map eight l) d₀) same
+    ∙ ap (λ b. paste b 24 (flat_map eight bs) (8 * length bs)) head
+    ∙ paste_more d₀ three (flat_map eight bs) 0 24 (8 * length bs) refl (length_numbers bs) (omega arith)
+    ∙ paste_over d₀ (three ++ flat_map eight bs) (24 + 8 * length bs) (omega (arith, length_numbers bs))
+    ∙ ap (λ l. over (three ++ flat_map eight l) d₀) same

@@ -1,21 +1,12 @@
 -- Powers of two: their digits, and the least that covers a number. Assumes nothing.
 use Rattle.std.proofs.Common.{◌≡◌, ℕ, zero, suc, ◌+◌, ◌*◌, ◌/◌, ◌%◌, ◌^◌, ◌<◌, ◌≤◌, leb, ◌⊎◌, sym, ap, ◌∙◌, subst, inl, inr, ⊎_elim, pow-suc, arith}
 use lib.Count.{ones, ones_in, count_trailing_zeros, under, ones_step, ones-le, ones_cat}
-use Rattle.std.proofs.lemmas.Nat.{pow_pos}
+use Rattle.std.proofs.lemmas.Nat.{pow_pos, zero_from_ones}
 use Rattle.std.proofs.lemmas.Bool.{cases_Bool, cond-true, cond-false, leb-true, leb-false, eqb-true, eq-eqb, cases_order, cases_lt}
 use Rattle.layout.specs.Powers.{PowersOfTwo, first_from, covering, Least, LeastCovering}
 
 two : (n : ℕ) → (n % 2 ≡ 0) ⊎ (n % 2 ≡ 1)
 two n = ⊎_elim (λ h. inl (omega arith)) (λ h. inr (omega arith)) (cases_lt (n % 2) 1)
-
--- a number whose digits are all 0
-no_ones : (w n : ℕ) → n < 2 ^ w → ones n ≡ 0 → n ≡ 0
-no_ones zero n h o = omega arith
-no_ones (suc w) n h o =
-    let s = ones_step n in
-    let p = pow-suc 2 w in
-    let half : n / 2 ≡ 0 = no_ones w (n / 2) (omega arith) (omega arith) in
-    omega arith
 
 -- the zeros below the only digit that is set are its place
 pub one-digit : (w n : ℕ) → n < 2 ^ w → ones n ≡ 1 → 2 ^ count_trailing_zeros w n ≡ n
@@ -30,7 +21,7 @@ one-digit (suc w) n h o =
     let place = ap (λ d. under d (count_trailing_zeros w (n / 2))) even in
     ap (λ t. 2 ^ t) place ∙ pow-suc 2 (count_trailing_zeros w (n / 2)) ∙ omega arith)
     (λ odd.
-    let none : n / 2 ≡ 0 = no_ones w (n / 2) (omega arith) (omega arith) in
+    let none : n / 2 ≡ 0 = zero_from_ones (n / 2) (omega arith) in
     let place = ap (λ d. under d (count_trailing_zeros w (n / 2))) odd in
     ap (λ t. 2 ^ t) place ∙ omega arith)
     (two n)

@@ -1,11 +1,11 @@
 -- The shape of a layout, read off its boundaries. Assumes nothing.
-use Rattle.std.proofs.Common.{◌≡◌, ℕ, zero, suc, ◌+◌, ◌-◌, ◌^◌, ◌<◌, ◌≤◌, Bool, List, map, length, get_or, take, set, replicate, Decides, drop, nat_eq, sum, sym, refl, ap, ◌∙◌, subst, ⊎_elim, add-one, arith}
+use Rattle.std.proofs.Common.{◌≡◌, ℕ, zero, suc, ◌+◌, ◌-◌, ◌^◌, ◌<◌, ◌≤◌, Bool, List, map, length, get_or, take, replicate, Decides, drop, nat_eq, sum, sym, refl, ap, ◌∙◌, subst, ⊎_elim, add-one, arith}
 use lib.Count.{ones, count_trailing_zeros}
 use Rattle.std.specs.List.{range_with_len}
 use Rattle.std.proofs.lemmas.List.FromFn.{length-map-range_with_len, get_or-map-range_with_len, fill_by_all}
-use Rattle.std.proofs.lemmas.List.{ext_get_or, take_all, get_or_past, get_or-set_same, get_or-set_other, length-take-le, get_or-take}
+use Rattle.std.proofs.lemmas.List.{ext_get_or, take_all, get_or_past, length-take-le, get_or-take}
 use Rattle.std.proofs.lemmas.List.Sums.{sum_by_more}
-use Rattle.std.proofs.lemmas.Bool.{eqb-true, cases_eq, cases_lt}
+use Rattle.std.proofs.lemmas.Bool.{eqb-true, cases_lt}
 use Rattle.layout.specs.declared.geometry.JaggedLayout.{JaggedLayout}
 use Rattle.std.specs.Cmp.{unsigned_Decides}
 use Rattle.std.specs.Cmp.Lexicographic.{pointwise, pointwise_decides}
@@ -108,6 +108,9 @@ all_lawful l =
       covered = omega (arith, area_is l, l.covered);
     }
 
+-- what a layout tells of its shape
+pub ruleset read_off = (columns_are, columns-power, height_is, area_is)
+
 -- the columns of heights whose boundaries these are
 pub heights_are : (hs bs : List ℕ) → ((y : ℕ) → y ≤ length hs → get_or bs y 0 ≡ sum (take y hs)) → map (between bs) (range_with_len 0 (length hs)) ≡ hs
 heights_are hs bs starts =
@@ -118,11 +121,3 @@ pub zeros : (n y : ℕ) → ◌≡◌ {A = ℕ} (get_or (replicate n 0) y 0) 0
 zeros zero y = refl
 zeros (suc n) zero = refl
 zeros (suc n) (suc y) = zeros n y
-
--- one boundary more
-pub starts_more : (hs bs : List ℕ) (i v : ℕ) → i + 1 < length bs → v ≡ sum (take (i + 1) hs) → ((y : ℕ) → y ≤ i → get_or bs y 0 ≡ sum (take y hs)) → (y : ℕ) → y ≤ i + 1 → get_or (set bs (i + 1) v) y 0 ≡ sum (take y hs)
-starts_more hs bs i v within e starts y h =
-    ⊎_elim
-    (λ same. subst (λ z. get_or (set bs (i + 1) v) z 0 ≡ sum (take z hs)) (sym same) (get_or-set_same bs (i + 1) v 0 within ∙ e))
-    (λ other. get_or-set_other bs (i + 1) y v 0 other ∙ starts y (omega arith))
-    (cases_eq y (i + 1))

@@ -5,3 +5,4 @@ pub mod Layout
 pub mod Plan
 pub mod Powers
 pub mod Shape
+pub mod Texts

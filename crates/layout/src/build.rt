@@ -117,10 +117,9 @@ fn area_of(row_variables: usize, heights: &[usize]) -> Result<usize, JaggedLayou
                 maximum,
             });
         }
-        area = match area.checked_add(*height) {
-            Some(sum) => sum,
-            None => return Err(JaggedLayoutError::AreaOverflow { column }),
-        };
+        area = area
+            .checked_add(*height)
+            .ok_or(JaggedLayoutError::AreaOverflow { column })?;
     }
     Ok(area)
 }
@@ -130,10 +129,10 @@ fn dense_for(area: usize, minimum: usize) -> Result<usize, JaggedLayoutError>
     ensures { result ≡ verdict (dense_checks area minimum) (dense_for area minimum) }
 {
     // The dense vector of an empty table still has one cell.
-    let capacity = match area.max(1).checked_next_power_of_two() {
-        Some(capacity) => capacity,
-        None => return Err(JaggedLayoutError::DenseAreaOverflow { area }),
-    };
+    let capacity = area
+        .max(1)
+        .checked_next_power_of_two()
+        .ok_or(JaggedLayoutError::DenseAreaOverflow { area })?;
     let variables = (capacity.trailing_zeros() as usize).max(minimum);
     if variables >= 64 {
         return Err(JaggedLayoutError::DenseVariablesOverflow { variables });
@@ -141,7 +140,8 @@ fn dense_for(area: usize, minimum: usize) -> Result<usize, JaggedLayoutError>
     Ok(variables)
 }
 
-// Where each column starts, and where the last ends.
+// Where each column starts, and where the last ends. The place is counted, since the library tells nothing of what a loop
+// over `iter_mut` beside `zip` wrote.
 fn boundaries_of(heights: &[usize]) -> [usize; MAX_BOUNDARIES]
     requires few { length heights.now ≤ max_columns }
     requires fits { sum heights.now < 2 ^ 64 }

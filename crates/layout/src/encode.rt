@@ -27,28 +27,20 @@ impl JaggedLayout {
                 available: bytes.len(),
             });
         }
-        put_number(bytes, 0, self.row_variables);
-        put_number(bytes, 8, self.dense_variables);
-        put_number(bytes, 16, count);
+        put_numbers(bytes, 0, &[self.row_variables, self.dense_variables, count]);
         put_numbers(bytes, 24, self.cumulative_heights());
         Ok(required)
     }
 }
 
-// Writes a number to eight bytes, the most significant first.
-fn put_number(bytes: &mut [u8], at: usize, number: usize)
-    requires { at + 8 ≤ length bytes.old }
-    ensures { bytes.new ≡ paste bytes.old at (eight number) 8 }
-{
-    bytes[at..at + 8].copy_from_slice(&number.to_be_bytes());
-}
-
-// Writes numbers one after the other.
+// Writes numbers one after the other, each to eight bytes, the most significant first. The place is counted, since the
+// library tells nothing of a slice's bytes once a loop over its chunks is over.
 fn put_numbers(bytes: &mut [u8], at: usize, numbers: &[usize])
     requires { at + 8 * length numbers.now ≤ length bytes.old }
     ensures { bytes.new ≡ paste bytes.old at (flat_map eight numbers.now) (8 * length numbers.now) }
 {
     for (place, number) in numbers.iter().enumerate() {
-        put_number(bytes, at + 8 * place, *number);
+        let start = at + 8 * place;
+        bytes[start..start + 8].copy_from_slice(&number.to_be_bytes());
     }
 }

@@ -1,6 +1,10 @@
 // The faults of a layout.
-ghost use Rattle.std.specs.Prelude.{◌≡◌};
+ghost use Rattle.std.specs.Prelude.{◌≡◌, Some};
 ghost use Rattle.layout.specs.Faults.{fault_number};
+ghost use Rattle.layout.specs.Texts.{layout_fault_fields};
+
+use std::error::Error;
+use std::fmt;
 
 #[derive(Clone, Copy, Debug, PartialEq, Eq)]
 pub enum JaggedLayoutError {
@@ -47,7 +51,7 @@ pub enum JaggedLayoutError {
 }
 
 impl JaggedLayoutError {
-    // The number that the fault has in every record of a run.
+    // The number that the fault has in the C interface and in every record of a run.
     pub fn number(&self) -> u8
         ensures { result ≡ fault_number self.now }
     {
@@ -65,3 +69,48 @@ impl JaggedLayoutError {
         }
     }
 }
+
+// The name and the fields.
+impl fmt::Display for JaggedLayoutError {
+    ghost output = { λ f. Some (layout_fault_fields f) };
+
+    fn fmt<W: fmt::Write>(&self, f: &mut fmt::Formatter<W>) -> fmt::Result {
+        match self {
+            Self::NoColumns => write!(f, "NoColumns"),
+            Self::ColumnCountNotPowerOfTwo { columns } => {
+                write!(f, "ColumnCountNotPowerOfTwo columns={columns}")
+            }
+            Self::TooManyColumns { columns, maximum } => {
+                write!(f, "TooManyColumns columns={columns} maximum={maximum}")
+            }
+            Self::RowVariablesOverflow { variables } => {
+                write!(f, "RowVariablesOverflow variables={variables}")
+            }
+            Self::HeightExceedsRowBound {
+                column,
+                height,
+                maximum,
+            } => write!(
+                f,
+                "HeightExceedsRowBound column={column} height={height} maximum={maximum}"
+            ),
+            Self::AreaOverflow { column } => write!(f, "AreaOverflow column={column}"),
+            Self::DenseAreaOverflow { area } => write!(f, "DenseAreaOverflow area={area}"),
+            Self::DenseVariablesOverflow { variables } => {
+                write!(f, "DenseVariablesOverflow variables={variables}")
+            }
+            Self::BufferTooShort {
+                required,
+                available,
+            } => write!(
+                f,
+                "BufferTooShort required={required} available={available}"
+            ),
+            Self::NoSuchColumn { column, columns } => {
+                write!(f, "NoSuchColumn column={column} columns={columns}")
+            }
+        }
+    }
+}
+
+impl Error for JaggedLayoutError {}

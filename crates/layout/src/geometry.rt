@@ -3,13 +3,14 @@ ghost use Rattle.std.specs.Prelude.{◌≡◌, ℕ, ◌+◌, ◌^◌, ◌<◌, �
 ghost use Rattle.layout.specs.Powers.{power_of_two};
 ghost use Rattle.layout.specs.Shape.{max_columns};
 
-// The most columns that a layout may have.
+// The most columns that a layout may have. The contracts say the number themselves, as `max_columns`, and hold at no other.
 pub const MAX_COLUMNS: usize = 256;
 
 // One boundary before each column, and one after the last.
 pub const MAX_BOUNDARIES: usize = MAX_COLUMNS + 1;
 
 // Column y takes the dense indexes from boundary y up to boundary y + 1; cells past the last boundary are 0.
+// The boundaries stand in the layout itself, and the number of columns beside them, since this library allocates nothing.
 #[derive(Clone, Copy, Debug)]
 pub struct JaggedLayout {
     pub(crate) row_variables: usize,

@@ -6,6 +6,7 @@ mod encode;
 mod error;
 mod geometry;
 mod read;
+mod text;
 
 pub use error::JaggedLayoutError;
 pub use geometry::{JaggedLayout, MAX_BOUNDARIES, MAX_COLUMNS};

@@ -1,4 +1,6 @@
 // What a layout tells of itself.
+#![tactic(auto, using(crate::proofs::Shapes::read_off), unfolding(crate::specs::Layout::shape))]
+
 ghost use Rattle.std.specs.Prelude.{◌≡◌, ◌+◌, ◌^◌, [], ◌∷◌, Decides, nat_le};
 ghost use Rattle.std.specs.Int.Count.{count_trailing_zeros};
 ghost use Rattle.ring.specs.Checks.{verdict, when};
@@ -75,7 +77,7 @@ impl JaggedLayout {
     }
 }
 
-// Layouts are equal where their shapes are.
+// Layouts are equal where their shapes are; by hand, since a derive would promise the same cells and compare all of them.
 impl PartialEq for JaggedLayout {
     ghost eq = { same_layout };
 
@@ -85,12 +87,9 @@ impl PartialEq for JaggedLayout {
         ensures answer { result ≡ same_layout self.now other.now }
         ensures decided { Decides result (shape self.now ≡ shape other.now) }
     {
-        if self.row_variables != other.row_variables
-            || self.dense_variables != other.dense_variables
-        {
-            return false;
-        }
-        self.cumulative_heights() == other.cumulative_heights()
+        self.row_variables == other.row_variables
+            && self.dense_variables == other.dense_variables
+            && self.cumulative_heights() == other.cumulative_heights()
     }
 }
 

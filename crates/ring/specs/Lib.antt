@@ -12,3 +12,4 @@ pub mod Algebra
 pub mod Halves
 pub mod Remainders
 pub mod Spellings
+pub mod Texts

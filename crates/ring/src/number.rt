@@ -12,13 +12,13 @@ pub(crate) fn put_number(number: u64, bytes: &mut [u8]) -> Result<usize, RingErr
     ensures after { bytes.new ≡ (if is_ok result then over (eight number) bytes.old else bytes.old) }
 {
     let available = bytes.len();
-    if available < 8 {
-        return Err(RingError::BufferTooShort {
+    let front = bytes
+        .first_chunk_mut::<8>()
+        .ok_or(RingError::BufferTooShort {
             required: 8,
             available,
-        });
-    }
-    bytes[0..8].copy_from_slice(&number.to_be_bytes());
+        })?;
+    *front = number.to_be_bytes();
     Ok(8)
 }
 
@@ -26,11 +26,6 @@ pub(crate) fn put_number(number: u64, bytes: &mut [u8]) -> Result<usize, RingErr
 pub(crate) fn number_of(bytes: &[u8]) -> Option<u64>
     ensures { MatchOption result (length bytes.now ≢ 8) (λ n. (eight n ≡ bytes.now) × (n < 2 ^ 64)) }
 {
-    if bytes.len() != 8 {
-        return None;
-    }
-    let spelled = [
-        bytes[0], bytes[1], bytes[2], bytes[3], bytes[4], bytes[5], bytes[6], bytes[7],
-    ];
-    Some(u64::from_be_bytes(spelled))
+    let spelled = bytes.as_array::<8>()?;
+    Some(u64::from_be_bytes(*spelled))
 }

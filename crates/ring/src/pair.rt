@@ -1,18 +1,17 @@
 // Pairs a + b·u over any ring, where u·u is the one below added eleven times.
-ghost use Rattle.std.specs.Prelude.{◌≡◌, ◌+◌, Bool, ◌&&◌, ◌++◌, Some, codes};
+ghost use Rattle.std.specs.Prelude.{◌≡◌, ◌+◌, ◌++◌, Some, codes};
 ghost use Rattle.std.specs.Fmt.{option_append};
 ghost use Rattle.std.proofs.Common.{sym, ◌∙◌, arith, length-append, rules};
 ghost use Rattle.ring.specs.Extension.{pairs, copies};
 ghost use Rattle.ring.specs.Extensions.{extension_laws, both};
 ghost use Rattle.ring.specs.Halves.{same_front, same_back};
-ghost use Rattle.std.specs.Cmp.Rules.{comparing};
 
 use crate::coefficient::Coefficient;
 use crate::fault::RingError;
 use crate::kind::Ring;
 use std::fmt;
 
-#[derive(Clone, Copy)]
+#[derive(Clone, Copy, PartialEq, Eq, Debug)]
 pub struct Pair<R> {
     pub a: R,
     pub b: R,
@@ -104,45 +103,28 @@ impl<R: Coefficient> Coefficient for Pair<R> {
 
     fn encode(self, bytes: &mut [u8]) -> Result<usize, RingError> {
         let half = R::byte_length();
-        let whole = half.saturating_add(half);
+        let required = half.saturating_add(half);
         let available = bytes.len();
-        // a whole that is told as 2^64 - 1 is even, so it is more than any slice has
-        if whole == usize::MAX || available < whole {
+        // No slice has as many as 2^64 - 1 bytes.
+        if available < required {
             return Err(RingError::BufferTooShort {
-                required: whole,
+                required,
                 available,
             });
         }
-        self.a.encode(&mut bytes[0..half])?;
-        self.b.encode(&mut bytes[half..whole])?;
-        Ok(whole)
+        let (front, back) = bytes.split_at_mut(half);
+        self.a.encode(front)?;
+        self.b.encode(back)?;
+        Ok(required)
     }
 
     fn read(bytes: &[u8]) -> Option<Pair<R>> {
-        let half = R::byte_length();
-        let whole = half.saturating_add(half);
-        if whole == usize::MAX || bytes.len() != whole {
-            return None;
-        }
-        let a = R::read(&bytes[0..half])?;
-        let b = R::read(&bytes[half..whole])?;
-        Some(Pair { a, b })
+        let (front, back) = bytes.split_at_checked(R::byte_length())?;
+        Some(Pair {
+            a: R::read(front)?,
+            b: R::read(back)?,
+        })
     }
-}
-
-// Equal where both parts are.
-impl<R: PartialEq> PartialEq for Pair<R> {
-    ghost eq = { λ x y. R.PartialEq.eq x.a y.a && R.PartialEq.eq x.b y.b };
-
-    ghost laws = { Prim.search (comparing, rules) };
-
-    fn eq(&self, other: &Pair<R>) -> bool {
-        self.a.eq(&other.a) & self.b.eq(&other.b)
-    }
-}
-
-impl<R: Eq> Eq for Pair<R> {
-    ghost laws = { Prim.search (comparing, rules) };
 }
 
 // The two parts with a comma between them.
@@ -153,13 +135,5 @@ impl<R: fmt::Display> fmt::Display for Pair<R> {
         let a = &self.a;
         let b = &self.b;
         write!(f, "{a},{b}")
-    }
-}
-
-impl<R: fmt::Debug> fmt::Debug for Pair<R> {
-    fn fmt<W: fmt::Write>(&self, f: &mut fmt::Formatter<W>) -> fmt::Result {
-        let a = &self.a;
-        let b = &self.b;
-        write!(f, "{a:?},{b:?}")
     }
 }

@@ -24,21 +24,14 @@ pub struct Residue {
     number: u32,
 }
 
-// The residue of a number.
-fn reduced(number: u64) -> Residue
-    ensures { residue_value result ≡ residue_of number }
-{
-    Residue {
-        number: (number % MODULUS as u64) as u32,
-    }
-}
-
 impl Residue {
     // The residue that a number leaves.
     pub fn new(number: u64) -> Residue
         ensures { residue_value result ≡ residue_of number }
     {
-        reduced(number)
+        Residue {
+            number: (number % MODULUS as u64) as u32,
+        }
     }
 
     // The canonical number, below the modulus.
@@ -65,16 +58,16 @@ impl Ring for Residue {
     }
 
     fn plus(self, other: Residue) -> Residue {
-        reduced(self.number as u64 + other.number as u64)
+        Residue::new(self.number as u64 + other.number as u64)
     }
 
     fn minus(self, other: Residue) -> Residue {
         // three times the modulus is above every number that a residue holds
-        reduced(self.number as u64 + (3 * MODULUS as u64 - other.number as u64))
+        Residue::new(self.number as u64 + (3 * MODULUS as u64 - other.number as u64))
     }
 
     fn times(self, other: Residue) -> Residue {
-        reduced(self.number as u64 * other.number as u64)
+        Residue::new(self.number as u64 * other.number as u64)
     }
 
     fn from_bool(set: bool) -> Residue {
@@ -82,6 +75,7 @@ impl Ring for Residue {
     }
 }
 
+// Each body is one call, as for words: one impl for both kinds would overlap with that for pairs.
 impl Coefficient for Residue {
     ghost width = { 8 };
 
@@ -102,18 +96,12 @@ impl Coefficient for Residue {
     }
 
     fn read(bytes: &[u8]) -> Option<Residue> {
-        let number = number_of(bytes)?;
-        if number < MODULUS as u64 {
-            Some(Residue {
-                number: number as u32,
-            })
-        } else {
-            None
-        }
+        let number = u32::try_from(number_of(bytes)?).ok()?;
+        (number < MODULUS).then_some(Residue { number })
     }
 }
 
-// Equal where the values are.
+// Equal where the values are; by hand, since a derive would compare the numbers held, which may be above the modulus.
 impl PartialEq for Residue {
     ghost eq = { λ x y. (residue_value x).0 == (residue_value y).0 };
 
@@ -141,6 +129,7 @@ impl fmt::Display for Residue {
     }
 }
 
+// Written as by Display; by hand, since a derive would print the number held, which may be above the modulus.
 impl fmt::Debug for Residue {
     fn fmt<W: fmt::Write>(&self, f: &mut fmt::Formatter<W>) -> fmt::Result {
         let number = self.number();

@@ -15,7 +15,7 @@ use crate::number::{number_of, put_number};
 use std::fmt;
 
 #[repr(C)]
-#[derive(Clone, Copy)]
+#[derive(Clone, Copy, Debug)]
 pub struct Word {
     number: u64,
 }
@@ -73,6 +73,7 @@ impl Ring for Word {
     }
 }
 
+// Each body is one call, as for residues: one impl for both kinds would overlap with that for pairs.
 impl Coefficient for Word {
     ghost width = { 8 };
 
@@ -98,7 +99,7 @@ impl Coefficient for Word {
     }
 }
 
-// Equal where the values are.
+// Equal where the values are; by hand, since a derive would promise the same held numbers, and not the same values.
 impl PartialEq for Word {
     ghost eq = { λ x y. (word_value x).0 == (word_value y).0 };
 
@@ -120,13 +121,6 @@ impl Eq for Word {
 impl fmt::Display for Word {
     ghost output = { λ x. Some (decimal (word_value x).0) };
 
-    fn fmt<W: fmt::Write>(&self, f: &mut fmt::Formatter<W>) -> fmt::Result {
-        let number = self.number();
-        write!(f, "{number}")
-    }
-}
-
-impl fmt::Debug for Word {
     fn fmt<W: fmt::Write>(&self, f: &mut fmt::Formatter<W>) -> fmt::Result {
         let number = self.number();
         write!(f, "{number}")

@@ -1,5 +1,3 @@
 pub mod Equal
-pub mod Making
 pub mod Numbering
-pub mod Skipping
 pub mod Writing

@@ -2,7 +2,6 @@ pub mod Calls
 pub mod Cells
 pub mod Kits
 pub mod Lines
-pub mod Operate
 pub mod Records
 pub mod Replies
 pub mod Slots

@@ -51,6 +51,10 @@ module _ {E : Type 0} (K : Kit E) (a : Answer) where
   abbrev pub Given : List ℕ → (E → Type 0) → Type 0
   Given ns P = MatchBool (length ns == K.parts) ((x : E) × K.numbered ns x × P x) (told a ≡ codes "no call")
 
+  -- what may become of the elements of two lists is told
+  abbrev pub Calculated : List ℕ → List ℕ → (E → E → E → Type 0) → Type 0
+  Calculated m n post = Given m (λ x. Given n (λ y. (z : E) × post x y z × Element z))
+
   abbrev pub Operation : List ℕ → List ℕ → (K.ops.Value → K.ops.Value → K.ops.Value) → Type 0
   Operation m n f = Given m (λ x. Given n (λ y. Tells (f (K.value x) (K.value y))))
 

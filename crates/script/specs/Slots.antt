@@ -1,5 +1,5 @@
 -- What the slots of a session hold, by what the layouts mean. Assumes nothing.
-use Rattle.std.specs.Prelude.{◌≡◌, ℕ, cond, List, Some, None, Option}
+use Rattle.std.specs.Prelude.{◌≡◌, ℕ, cond, List, Some, None, MatchResult, Option, Result}
 use Rattle.std.specs.BTreeMap.{get_by_text}
 use Rattle.std.specs.Str.{bytes_eq as same_text}
 use Rattle.layout.specs.declared.geometry.JaggedLayout.{JaggedLayout}
@@ -23,3 +23,7 @@ placed slots name S other = cond (same_text other name) S (slots other)
 -- every slot is as it was
 abbrev pub Same : Session → Session → Type 0
 Same s t = (name : List ℕ) → slot t name ≡ slot s name
+
+-- a call that answers leaves these slots; without memory every slot is as it was
+abbrev pub Leaves : {T E : Type 0} → Result T E → Session → Session → (List ℕ → Shape) → Type 0
+Leaves result old new slots = MatchResult result (λ _. (other : List ℕ) → slot new other ≡ slots other) (λ _. Same old new)

@@ -5,6 +5,7 @@ ghost use Rattle.script.specs.Cells.{Numbered};
 ghost use Rattle.script.specs.Records.{separated};
 
 use crate::element::Element;
+use crate::separated::Separated;
 use std::alloc::{AllocError, Global};
 use words::Unsaid;
 
@@ -12,16 +13,9 @@ use words::Unsaid;
 pub fn elements<R: Element>(heap: Global, numbers: &[usize]) -> Result<Vec<R>, Unsaid>
     ensures { MatchSaid result (length numbers.now % R.Element.parts ≢ 0) (λ v. Numbered R.Element.parts R.Element.numbered numbers.now v.items) }
 {
-    let parts = R::parts();
     let mut elements = Vec::new(heap);
-    let mut start = 0;
-    while start < numbers.len() {
-        if numbers.len() - start < parts {
-            return Err(Unsaid::Nothing);
-        }
-        let end = start + parts;
-        elements.push(R::of(&numbers[start..end]).ok_or(Unsaid::Nothing)?)?;
-        start = end;
+    for chunk in numbers.chunks(R::parts()) {
+        elements.push(R::of(chunk).ok_or(Unsaid::Nothing)?)?;
     }
     Ok(elements)
 }
@@ -30,15 +24,8 @@ pub fn elements<R: Element>(heap: Global, numbers: &[usize]) -> Result<Vec<R>, U
 pub fn cells_text<R: Element>(heap: Global, cells: &[R]) -> Result<String, AllocError>
     ensures { IfOk result (λ s. string_bytes s ≡ separated R.Element.text cells.now) }
 {
-    let mut text = String::new(heap);
-    for (place, cell) in cells.iter().enumerate() {
-        if place > 0 {
-            text.push(',')?;
-        }
-        let numbers = cell_text(heap, *cell)?;
-        text.push_str(numbers.as_str())?;
-    }
-    Ok(text)
+    let all = Separated(cells);
+    format!(in heap; "{all}")
 }
 
 // The canonical numbers of one cell.

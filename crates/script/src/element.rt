@@ -37,6 +37,17 @@ pub trait Element: Coefficient + Display {
     ghost alike: { (ns : List ℕ) (x y : Self) → numbered ns x → numbered ns y → Self.Ring.value x ≡ Self.Ring.value y };
 }
 
+// The number of a list that has no other.
+fn only(numbers: &[usize]) -> Option<u64>
+    ensures { MatchOption result (length numbers.now ≢ 1) (λ n. (length numbers.now ≡ 1) × (n ≡ slice_index numbers.now 0)) }
+{
+    let [number] = numbers else {
+        return None;
+    };
+    Some(*number as u64)
+}
+
+// Residues and words have an impl each: one for both would overlap with that for pairs.
 impl Element for Residue {
     ghost parts = { 1 };
 
@@ -57,10 +68,7 @@ impl Element for Residue {
     }
 
     fn of(numbers: &[usize]) -> Option<Residue> {
-        if numbers.len() != 1 {
-            return None;
-        }
-        Some(Residue::new(numbers[0] as u64))
+        Some(Residue::new(only(numbers)?))
     }
 }
 
@@ -84,10 +92,7 @@ impl Element for Word {
     }
 
     fn of(numbers: &[usize]) -> Option<Word> {
-        if numbers.len() != 1 {
-            return None;
-        }
-        Some(Word::new(numbers[0] as u64))
+        Some(Word::new(only(numbers)?))
     }
 }
 
@@ -112,13 +117,9 @@ impl<R: Element> Element for Pair<R> {
     }
 
     fn of(numbers: &[usize]) -> Option<Pair<R>> {
-        let half = numbers.len() / 2;
-        let Some(a) = R::of(&numbers[0..half]) else {
-            return None;
-        };
-        let Some(b) = R::of(&numbers[half..]) else {
-            return None;
-        };
+        let (first, second) = numbers.split_at(numbers.len() / 2);
+        let a = R::of(first)?;
+        let b = R::of(second)?;
         Some(Pair { a, b })
     }
 }

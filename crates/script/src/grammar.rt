@@ -119,25 +119,22 @@ fn kind_call(heap: Global, name: &[u8], arguments: &[&[u8]]) -> Result<Call, Uns
 pub fn ring_kind(word: &[u8]) -> Option<Kind>
     ensures { result ≡ kind_of word.now }
 {
+    // the facts on an arm `b"pair-pair-residue"` of a `match` would be on the word's length alone
     if says(word, "residue") {
-        return Some(Kind::Residue);
+        Some(Kind::Residue)
+    } else if says(word, "word") {
+        Some(Kind::Word)
+    } else if says(word, "pair-residue") {
+        Some(Kind::PairResidue)
+    } else if says(word, "pair-word") {
+        Some(Kind::PairWord)
+    } else if says(word, "pair-pair-residue") {
+        Some(Kind::PairPairResidue)
+    } else if says(word, "pair-pair-word") {
+        Some(Kind::PairPairWord)
+    } else {
+        None
     }
-    if says(word, "word") {
-        return Some(Kind::Word);
-    }
-    if says(word, "pair-residue") {
-        return Some(Kind::PairResidue);
-    }
-    if says(word, "pair-word") {
-        return Some(Kind::PairWord);
-    }
-    if says(word, "pair-pair-residue") {
-        return Some(Kind::PairPairResidue);
-    }
-    if says(word, "pair-pair-word") {
-        return Some(Kind::PairPairWord);
-    }
-    None
 }
 
 fn ring_call(heap: Global, name: &[u8], arguments: &[&[u8]]) -> Result<RingCall, Unsaid>

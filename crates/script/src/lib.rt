@@ -9,6 +9,7 @@ mod grammar;
 mod line;
 mod make;
 mod ringing;
+mod separated;
 mod session;
 mod slots;
 mod text;

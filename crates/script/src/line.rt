@@ -4,7 +4,7 @@ ghost use Rattle.std.specs.Option.{option_map};
 ghost use Rattle.script.specs.Calls.{meaning};
 ghost use Rattle.words.specs.Cuts.{texts};
 ghost use Rattle.script.specs.Lines.{is_skipped, Recorded, Prints, slots_by, slots_after_line};
-ghost use Rattle.script.specs.Slots.{slot, Same};
+ghost use Rattle.script.specs.Slots.{slot};
 
 use crate::answer::Answer;
 use crate::grammar::parse;

@@ -1,9 +1,9 @@
 // Makes the calls.
-ghost use Rattle.std.specs.Prelude.{◌≡◌, ℕ, List, IfOk, vec_len, string_bytes, MatchResult};
+ghost use Rattle.std.specs.Prelude.{◌≡◌, IfOk, vec_len, string_bytes};
 ghost use Rattle.script.specs.Calls.{said};
 ghost use Rattle.script.specs.Records.{told};
 ghost use Rattle.script.specs.Replies.{blank, lay_out_reply, height_reply, encode_reply, laid_out, slots_after, Reply};
-ghost use Rattle.script.specs.Slots.{slot, Same};
+ghost use Rattle.script.specs.Slots.{slot, Leaves};
 
 use crate::answer::Answer;
 use crate::call::Call;
@@ -21,11 +21,12 @@ pub(crate) fn blank_buffer(heap: Global, room: usize) -> Result<Vec<u8>, AllocEr
     Vec::from_elem(heap, BLANK, room)
 }
 
+// A refusal is an answer here like any other, so each result is matched: the one error is that memory is out.
 impl Session {
     // Makes a call. Only an accepted layout changes a slot, its own.
     pub fn make(&mut self, heap: Global, call: Call) -> Result<Answer, AllocError>
         ensures answer { IfOk result (Reply (slot self.old) (said call)) }
-        ensures slots { MatchResult result (λ _. (other : List ℕ) → slot self.new other ≡ slots_after (slot self.old) (said call) other) (λ _. Same self.old self.new) }
+        ensures slots { Leaves result self.old self.new (slots_after (slot self.old) (said call)) }
     {
         match call {
             Call::New {
@@ -56,7 +57,7 @@ impl Session {
         minimum: usize,
     ) -> Result<Answer, AllocError>
         ensures answer { IfOk result (λ a. told a ≡ lay_out_reply row_variables heights.now minimum) }
-        ensures slots { MatchResult result (λ _. (other : List ℕ) → slot self.new other ≡ laid_out (slot self.old) (string_bytes name) row_variables heights.now minimum other) (λ _. Same self.old self.new) }
+        ensures slots { Leaves result self.old self.new (laid_out (slot self.old) (string_bytes name) row_variables heights.now minimum) }
     {
         let mut layout = self.held(name.as_str());
         match layout.with_min_dense_variables(row_variables, heights, minimum) {

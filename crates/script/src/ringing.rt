@@ -2,27 +2,19 @@
 ghost use Rattle.std.specs.Prelude.{◌≡◌, ◌++◌, IfOk, codes};
 ghost use Rattle.script.specs.Calls.{ring_said, encode as encode_said, read as read_said, equal as equal_said};
 ghost use Rattle.script.specs.Kits.{kit_of};
-ghost use Rattle.script.specs.Operate.{operate as operated};
 ghost use Rattle.script.specs.Records.{told, field};
-ghost use Rattle.script.specs.Replies.{Operation as OperationReply, RingReply, KindReply};
+ghost use Rattle.script.specs.Replies.{Calculated, RingReply, KindReply};
 
 use crate::answer::Answer;
 use crate::call::{Kind, RingCall};
 use crate::cells::cell_text;
 use crate::element::Element;
 use crate::make::blank_buffer;
-use ring::{Pair, Residue, Ring, Word};
+use ring::{Pair, Residue, Word};
 use std::alloc::{AllocError, Global};
 
-// The operations on two elements that give an element.
-#[derive(Clone, Copy)]
-pub enum Operation {
-    Plus,
-    Minus,
-    Times,
-}
-
 // Makes a call at its ring kind.
+// The crates above have such a match too: a trait for what is done at a kind's type would want a struct and an impl for each.
 pub(crate) fn ring_answer(heap: Global, kind: Kind, call: RingCall) -> Result<Answer, AllocError>
     ensures { IfOk result (KindReply kind (ring_said call)) }
 {
@@ -50,9 +42,9 @@ fn element_answer<R: Element + PartialEq>(
         RingCall::Read { bytes } => read_back::<R>(heap, &bytes),
         RingCall::Zero => tell(heap, R::zero()),
         RingCall::One => tell(heap, R::one()),
-        RingCall::Plus { a, b } => calculated::<R>(heap, &a, &b, Operation::Plus),
-        RingCall::Minus { a, b } => calculated::<R>(heap, &a, &b, Operation::Minus),
-        RingCall::Times { a, b } => calculated::<R>(heap, &a, &b, Operation::Times),
+        RingCall::Plus { a, b } => calculated(heap, &a, &b, R::plus),
+        RingCall::Minus { a, b } => calculated(heap, &a, &b, R::minus),
+        RingCall::Times { a, b } => calculated(heap, &a, &b, R::times),
         RingCall::FromBool { set } => tell(heap, R::from_bool(set)),
         RingCall::Equal { a, b } => Ok(compared::<R>(&a, &b)),
     }
@@ -92,40 +84,26 @@ fn read_back<R: Element + PartialEq>(heap: Global, bytes: &[u8]) -> Result<Answe
     }
 }
 
-fn calculated<R: Element + PartialEq>(
+// The answer that tells what an operation makes of two elements.
+fn calculated<R: Element + PartialEq, F: FnOnce(R, R) -> R>(
     heap: Global,
     a: &[usize],
     b: &[usize],
-    operation: Operation,
+    operation: F,
 ) -> Result<Answer, AllocError>
-    ensures { IfOk result (λ t. OperationReply (kit_of R.Element R.PartialEq) t a.now b.now (operated R.Ring.ops operation)) }
+    requires { F.IsAlwaysCallable operation }
+    ensures { IfOk result (λ t. Calculated (kit_of R.Element R.PartialEq) t a.now b.now (F.post operation)) }
 {
-    let Some(x) = R::of(a) else {
+    let (Some(x), Some(y)) = (R::of(a), R::of(b)) else {
         return Ok(Answer::NoCall);
     };
-    let Some(y) = R::of(b) else {
-        return Ok(Answer::NoCall);
-    };
-    tell(heap, operate(x, y, operation))
-}
-
-fn operate<R: Ring>(x: R, y: R, operation: Operation) -> R
-    ensures { R.Ring.value result ≡ operated R.Ring.ops operation (R.Ring.value x) (R.Ring.value y) }
-{
-    match operation {
-        Operation::Plus => x.plus(y),
-        Operation::Minus => x.minus(y),
-        Operation::Times => x.times(y),
-    }
+    tell(heap, operation(x, y))
 }
 
 fn compared<R: Element + PartialEq>(a: &[usize], b: &[usize]) -> Answer
     ensures { RingReply (kit_of R.Element R.PartialEq) result (equal_said a.now b.now) }
 {
-    let Some(x) = R::of(a) else {
-        return Answer::NoCall;
-    };
-    let Some(y) = R::of(b) else {
+    let (Some(x), Some(y)) = (R::of(a), R::of(b)) else {
         return Answer::NoCall;
     };
     Answer::Equal { equal: x == y }

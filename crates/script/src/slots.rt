@@ -1,8 +1,8 @@
 // What the slots of a session hold.
-ghost use Rattle.std.specs.Prelude.{◌≡◌, ℕ, List, string_bytes, MatchResult};
+ghost use Rattle.std.specs.Prelude.{◌≡◌, ℕ, List, string_bytes};
 ghost use Rattle.layout.specs.Layout.{shape};
 ghost use Rattle.layout.specs.Shape.{empty_shape};
-ghost use Rattle.script.specs.Slots.{slot, placed, Same};
+ghost use Rattle.script.specs.Slots.{slot, placed, Leaves};
 
 use crate::session::Session;
 use layout::JaggedLayout;
@@ -23,19 +23,14 @@ impl Session {
     pub fn held(&self, name: &str) -> JaggedLayout
         ensures { shape result ≡ slot self.now name.now }
     {
-        match self.slots.get(name) {
-            Some(layout) => *layout,
-            None => JaggedLayout::empty(),
-        }
+        self.slots.get(name).copied().unwrap_or_default()
     }
 
     // Has a name hold a layout.
     pub(crate) fn hold(&mut self, name: String, layout: JaggedLayout) -> Result<(), AllocError>
-        ensures { MatchResult result (λ _. (other : List ℕ) → slot self.new other ≡ placed (slot self.old) (string_bytes name) (shape layout) other) (λ _. Same self.old self.new) }
+        ensures { Leaves result self.old self.new (placed (slot self.old) (string_bytes name) (shape layout)) }
     {
-        match self.slots.insert(name, layout) {
-            Ok(_) => Ok(()),
-            Err(back) => Err(back.into()),
-        }
+        self.slots.insert(name, layout)?;
+        Ok(())
     }
 }

@@ -1,7 +1,8 @@
-use Rattle.std.proofs.Common.{◌≡◌, ◌+◌, ◌*◌, length, Ok, Err, sym, refl, ap, ◌∙◌, arith}
+use Rattle.std.proofs.Common.{◌≡◌, ◌+◌, ◌*◌, [], ◌∷◌, length, Ok, Err, sym, refl, ap, ◌∙◌, arith}
 use lib.Seq.{paste}
 use Rattle.std.proofs.lemmas.List.FromFn.{length-map-range_with_len}
 use Rattle.std.proofs.lemmas.Bool.{cond-true, cond-false, lt-ltb, le-ltb}
+use Rattle.std.specs.List.{flat_map}
 use Rattle.ring.specs.Bytes.{eight}
 use Rattle.layout.specs.declared.error.JaggedLayoutError.TheVariants.{BufferTooShort}
 use Rattle.layout.specs.Encoding.{layout_length}
@@ -22,8 +23,8 @@ returns-then-bytes-required c =
       tell = bytes_tell_shapes;
     }
 
-pub put_numbers-requires : goal.put_numbers-requires
-put_numbers-requires c =
+pub put_numbers-requires-2 : goal.put_numbers-requires-2
+put_numbers-requires-2 c =
     let l = c.args.self.now in
     let count = ap length c.cumulative_heights.ensures.value ∙ length-map-range_with_len (start (shape l)) 0 (columns (shape l) + 1) in
     omega (arith, columns_are l, count)
@@ -36,8 +37,8 @@ returns c =
     record {
       answer = ap Ok (sym long) ∙ sym (cond-false _ _ _ (le-ltb (length c.args.bytes.now) (layout_length (shape l)) (omega arith)));
       after =
-          written (shape l) c.args.bytes.now c.put_number.new.bytes c.put_number-2.new.bytes c.put_number-3.new.bytes c.put_numbers.new.bytes c.cumulative_heights.result.now
-          (omega arith) c.cumulative_heights.ensures.value c.put_number.ensures c.put_number-2.ensures (c.put_number-3.ensures ∙ ap (λ n. paste c.put_number-2.new.bytes 16 (eight (n + 1)) 8) (sym (columns_are l))) c.put_numbers.ensures;
+          written (shape l) c.args.bytes.now c.put_numbers.new.bytes c.put_numbers-2.new.bytes c.cumulative_heights.result.now
+          (omega arith) c.cumulative_heights.ensures.value (c.put_numbers.ensures ∙ ap (λ n. paste c.args.bytes.now 0 (flat_map eight (l.row_variables ∷ l.dense_variables ∷ (n + 1) ∷ [])) 24) (sym (columns_are l))) c.put_numbers-2.ensures;
       len = bytes_long (shape l);
       tell = bytes_tell_shapes;
     }

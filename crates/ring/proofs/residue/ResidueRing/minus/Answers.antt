@@ -4,4 +4,4 @@ use Rattle.ring.specs.Remainders.{minus_of}
 use Rattle.ring.proofs.residue.ResidueRing.minus.Goals as goal
 
 pub returns : goal.returns
-returns c = c.reduced.ensures ∙ minus_of prime (lit< tt) c.args.self.number c.args.other.number 3 (omega arith)
+returns c = c.new.ensures ∙ minus_of prime (lit< tt) c.args.self.number c.args.other.number 3 (omega arith)

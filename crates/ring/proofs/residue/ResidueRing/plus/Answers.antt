@@ -4,4 +4,4 @@ use Rattle.ring.specs.Remainders.{plus_of}
 use Rattle.ring.proofs.residue.ResidueRing.plus.Goals as goal
 
 pub returns : goal.returns
-returns c = c.reduced.ensures ∙ plus_of prime (lit< tt) c.args.self.number c.args.other.number
+returns c = c.new.ensures ∙ plus_of prime (lit< tt) c.args.self.number c.args.other.number

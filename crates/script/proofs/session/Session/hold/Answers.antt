@@ -15,9 +15,9 @@ chosen false l o = refl
 turned : (xs ys : List ℕ) → same_text xs ys ≡ same_text ys xs
 turned xs ys = grind (arith, bytes_eq-Decides)
 
-pub returns-in-Ok : goal.returns-in-Ok
-returns-in-Ok c = λ other.
+pub returns : goal.returns
+returns c = λ other.
     let old = c.args.self.now.slots in
     let name = string_bytes c.args.name in
-    let sets = btree_map_updates_text name old c.insert.new.self _ c.in-Ok.ensures.updates other in
+    let sets = btree_map_updates_text name old c.insert.new.self _ c.in_ok-insert.ensures.updates other in
     ap shape_or sets ∙ chosen (same_text name other) c.args.layout (get_by_text old other) ∙ ap (λ b. cond b (shape c.args.layout) (shape_or (get_by_text old other))) (turned name other)

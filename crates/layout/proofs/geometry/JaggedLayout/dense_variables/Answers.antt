@@ -1,7 +1,0 @@
-use Rattle.std.proofs.Common.{refl}
-use Rattle.layout.specs.Layout.{shape}
-use Rattle.layout.proofs.geometry.JaggedLayout.dense_variables.Goals as goal
-
-pub returns : goal.returns
-unfolding shape
-returns c = refl
