@@ -1,4 +1,3 @@
-pub mod Checked
 pub mod Cuts
 pub mod Lowest
 pub mod Orders
@@ -6,9 +5,10 @@ pub mod Parts
 pub mod Passings
 pub mod Pieces
 pub mod Placed
-pub mod Ranks
 pub mod Related
-pub mod Rooms
+pub mod Runs
 pub mod Tall
+pub mod Told
+pub mod Walks
 pub mod Written
 pub mod Yields

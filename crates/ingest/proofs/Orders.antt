@@ -3,7 +3,6 @@ use Rattle.std.proofs.Common.{◌≡◌, ℕ, zero, suc, ◌+◌, ◌<◌, ◌�
 use Rattle.std.proofs.lemmas.List.{at_drop_more, at_drop_all}
 use Rattle.std.proofs.lemmas.Bool.{cond-true, cond-false, lt-ltb, le-ltb, le-leb, lt-leb, or_left, or_right, or_from, or_parts, not-false, leb-false, eqb-true, cases_Bool, cases_lt, cases_eq, not_from_true, not_from_false}
 use Rattle.ring.specs.Checks.{Check, verdict, when}
-use Rattle.ring.proofs.Verdicts.{verdict_refused}
 use Rattle.ingest.specs.declared.fault.JaggedIngestError.{JaggedIngestError}
 use Rattle.ingest.specs.declared.fault.JaggedIngestError.TheVariants.{TableOutOfOrder}
 use Rattle.ingest.specs.declared.record.Record.{Record}
@@ -114,29 +113,17 @@ module _ (t : List Record) where
   pub reached : (k i next : ℕ) → i + k ≡ length t → wrong_from i next (drop i t) ≡ None → next ≤ length t
   reached k i next e none = (sound_from k i next e none).0
 
-  -- a table in order keeps its parts after their chunks; its columns are present, and it is not too long
+  -- a table in order keeps its parts after their chunks, and its columns are present
   pub sound : (sources : ℕ) → wrong_record t sources ≡ None → Sound t
   sound sources none j from count high chunk = (sound_from (length t) 0 sources (omega arith) none).1 j from count (omega arith) high chunk
 
   pub sources_present : (sources : ℕ) → wrong_record t sources ≡ None → sources ≤ length t
   sources_present sources none = (sound_from (length t) 0 sources (omega arith) none).0
 
-  few_from : (k i next : ℕ) → i + k ≡ length t → i ≤ max_records → wrong_from i next (drop i t) ≡ None → length t ≤ max_records
-  few_from zero i next e few none = omega arith
-  few_from (suc k) i next e few none =
-      let p = passed i next (omega arith) none in
-      few_from k (i + 1) (run_end next (record_at t i)) (omega arith) (omega (arith, p.1)) p.3
-
-  pub few_records : (sources : ℕ) → wrong_record t sources ≡ None → length t ≤ max_records
-  few_records sources none = few_from (length t) 0 sources (omega arith) (omega arith) none
-
   -- what a passed check tells
   pub order_none : (sources : ℕ) → ◌≡◌ {A = Result (Unit {0}) JaggedIngestError} (verdict (order_check t sources ∷ []) tt) (Ok tt) → wrong_record t sources ≡ None
   order_none sources e = none_from (wrong_record t sources) e
 
-  -- a table in order leaves the answer to the checks after it, and any other decides it
+  -- a table in order leaves the answer to the checks after it
   pub order_goes : {T : Type 0} (sources : ℕ) (rest : List (Check JaggedIngestError)) (v : T) → wrong_record t sources ≡ None → verdict (order_check t sources ∷ rest) v ≡ verdict rest v
   order_goes sources rest v e = ap (λ w. verdict (when (is_some w) (TableOutOfOrder (unwrap_or w 0)) ∷ rest) v) e
-
-  pub order_stops : {T : Type 0} (sources : ℕ) (rest : List (Check JaggedIngestError)) (v : T) (e : JaggedIngestError) → ◌≡◌ {A = Result (Unit {0}) JaggedIngestError} (verdict (order_check t sources ∷ []) tt) (Err e) → verdict (order_check t sources ∷ rest) v ≡ Err e
-  order_stops sources rest v e h = verdict_refused (order_check t sources ∷ []) rest v tt e h

@@ -98,6 +98,9 @@ module _ (t : List Record) (sound : Sound t) where
   converted i (Bits place words height) e = omega (arith, ap rank_of e)
   converted i (Chunked from count) e = omega (arith, ap rank_of e, (run_pass (pass_of t) Copied from count).starts)
 
+  pub pass_converted : (i : ℕ) → i < length t → 1 ≤ rank_of (pass_of t i)
+  pass_converted i h = converted i (record_at t i) (pass_by_parts t sound i h)
+
   pass_at : (i : ℕ) (r : Record) → i < length t → record_at t i ≡ r → pass_of t i ≡ by_parts (λ _ r. leaf_pass r) highest (pass_of t) i r → PassIs (pass_of t) r (pass_of t i)
   pass_at i (Dense place height) h at e = e
   pass_at i (Interleaved place len first stride height) h at e = e

@@ -1,21 +1,25 @@
 -- What the checks of a piece tell. Assumes nothing.
-use Rattle.std.proofs.Common.{◌≡◌, ℕ, ◌<◌, ◌≤◌, List, [], ◌∷◌, ◌++◌, map, length, get_or, take, None, sym, ap, ◌∙◌, subst, arith}
-use Rattle.std.proofs.lemmas.List.{append-nil, take_more}
-use Rattle.std.proofs.lemmas.Bool.{ltb-false}
-use Rattle.ring.specs.Checks.{Passed}
+use Rattle.std.proofs.Common.{◌≡◌, ℕ, ◌^◌, ◌≤◌, false, leb, List, [], ◌∷◌, ◌++◌, map, length, None, Ok, Result, sym, ap, ◌∙◌, subst, arith}
+use Rattle.std.proofs.lemmas.Bool.{cond-false, ltb-false}
+use Rattle.ingest.specs.declared.fault.JaggedIngestError.{JaggedIngestError}
+use Rattle.ring.specs.Checks.{Passed, verdict}
 use Rattle.ring.specs.Operations.{Operations}
-use Rattle.ring.proofs.Verdicts.{passed_left, passed_right}
+use Rattle.ring.proofs.Verdicts.{passed_from_ok, passed_left, passed_right}
+use Rattle.ingest.specs.Charges.{outcome}
 use Rattle.ingest.specs.declared.record.Record.{Record}
 use Rattle.ingest.specs.Asked.{room_check}
 use Rattle.ingest.specs.Leaves.{checks_at}
 use Rattle.ingest.specs.Order.{wrong_record}
-use Rattle.ingest.specs.Piece.{piece_height_checks, piece_checks}
+use Rattle.ingest.specs.Piece.{tall_check, piece_height_checks, piece_checks}
 use Rattle.ingest.specs.Reading.{passed_up_check}
-use Rattle.ingest.specs.Rows.{found_rows, rows_of, rows_at}
-use Rattle.ingest.specs.Table.{flat, height_of, leaves_of, leaves_at}
-use Rattle.ingest.proofs.Orders.{sources_present}
+use Rattle.ingest.specs.Rows.{rows_of, rows_at, Sits}
+use Rattle.ingest.specs.Table.{height_of, leaves_of}
+use Rattle.ingest.proofs.Orders.{order_goes, sources_present}
 use Rattle.ingest.proofs.Passings.{down_passed}
-use Rattle.ingest.proofs.Placed.{Each, Sits, columns_sit, each_at, heights_count, leaves_sit, no_some, rows_by_leaves, rows_long}
+use Rattle.ingest.proofs.Placed.{heights_count, leaves_sit, no_some, rows_long}
+use Rattle.ingest.proofs.Yields.{leaves_long, one_run}
+use Rattle.ingest.specs.Walks.{run_of}
+use Rattle.std.specs.List.{All}
 
 module _ (t : List Record) (column cells words room : ℕ) (p : Passed (piece_checks t column cells words room)) where
   abbrev first_part : Passed (piece_height_checks t column)
@@ -30,32 +34,36 @@ module _ (t : List Record) (column cells words room : ℕ) (p : Passed (piece_ch
   piece_room : height_of t 0 ≤ room
   piece_room = ltb-false room (height_of t 0) (passed_right (map passed_up_check (checks_at cells words column t 0)) (room_check (height_of t 0) room ∷ []) second_part).0
 
-  piece_sits : Each (Sits cells words t) (flat (take 1 (leaves_of t)))
+  pub piece_sits : All (Sits cells words t) (run_of (leaves_of t) 0 1)
   piece_sits =
-      columns_sit cells words t 1 (sources_present t 1 piece_ordered)
-      (λ y h. let e : y ≡ 0 = omega arith in subst (λ n. Each (Sits cells words t) (leaves_at t n)) (sym e) (leaves_sit cells words t column 0 (down_passed (checks_at cells words column t 0) (passed_left (map passed_up_check (checks_at cells words column t 0)) (room_check (height_of t 0) room ∷ []) second_part))))
+      let none = sources_present t 1 piece_ordered in
+      subst (All (Sits cells words t)) (sym (one_run (leaves_of t) 0 (omega (arith, leaves_long t))))
+      (leaves_sit cells words t column 0 (down_passed (checks_at cells words column t 0) (passed_left (map passed_up_check (checks_at cells words column t 0)) (room_check (height_of t 0) room ∷ []) second_part)))
 
--- the rows of the first record alone
-first_rows : (K : Operations) (cells : List K.Value) (words : List ℕ) (t : List Record) → 0 < length t → found_rows K cells words t (flat (take 1 (leaves_of t))) ≡ rows_at K cells words t 0
-first_rows K cells words t h =
-    sym (rows_by_leaves K cells words t 1)
-    ∙ ap flat (take_more (rows_of K cells words t) 0 [] (omega (arith, rows_long K cells words t)))
-    ∙ append-nil (rows_at K cells words t 0)
+-- with a table in order and a height that fits, the leaves and the room decide
+pub piece_goes : (t : List Record) (column cells words room : ℕ) → wrong_record t 1 ≡ None → leb (2 ^ 64) (height_of t 0) ≡ false → ◌≡◌ {A = Result (Unit {0}) JaggedIngestError} (verdict (piece_checks t column cells words room) tt) (verdict (map passed_up_check (checks_at cells words column t 0) ++ (room_check (height_of t 0) room ∷ [])) tt)
+piece_goes t column cells words room none high =
+    order_goes t 1 (tall_check t column ∷ (map passed_up_check (checks_at cells words column t 0) ++ (room_check (height_of t 0) room ∷ []))) tt none ∙ cond-false _ _ _ high
 
--- what an accepted piece tells, once its leaves are found
-pub record Brought (K : Operations) (cells : List K.Value) (words : List ℕ) (t : List Record) (n m room : ℕ) (leaves : List ℕ) : Type 0 where
-  pub sits : (k : ℕ) → k < length leaves → Sits n m t (get_or leaves k 0)
-  pub rows_are : found_rows K cells words t leaves ≡ rows_at K cells words t 0
-  pub tall : length (found_rows K cells words t leaves) ≡ height_of t 0
+-- what an accepted piece tells of its table, and of the records that were checked
+pub record Brought (K : Operations) (cells : List K.Value) (words : List ℕ) (t o : List Record) (column n m room : ℕ) : Type 0 where
+  pub passed : Passed (piece_checks t column n m room)
+  pub sits : All (Sits n m o) (run_of (leaves_of o) 0 1)
+  pub rows_are : run_of (rows_of K cells words o) 0 1 ≡ rows_at K cells words t 0
+  pub tall : length (run_of (rows_of K cells words o) 0 1) ≡ height_of t 0
   pub fits : height_of t 0 ≤ room
 
-pub brought : (K : Operations) (cells : List K.Value) (words : List ℕ) (t : List Record) (column n m room : ℕ) (leaves : List ℕ) → Passed (piece_checks t column n m room) → leaves ≡ flat (take 1 (leaves_of t)) → Brought K cells words t n m room leaves
-brought K cells words t column n m room leaves p found-are =
+pub brought : {A : Type 0} (K : Operations) (cells : List K.Value) (words : List ℕ) (t o : List Record) (column n m n-told m-told room : ℕ) (r : Result A JaggedIngestError) (x : A) → outcome r ≡ verdict (piece_checks t column n-told m-told room) tt → r ≡ Ok x → o ≡ t → n-told ≡ n → m-told ≡ m → Brought K cells words t o column n m room
+brought K cells words t o column n m n-told m-told room r x answer is same n-same m-same =
+    let p-told = passed_from_ok (piece_checks t column n-told m-told room) tt tt (sym answer ∙ ap outcome is) in
+    let p = subst (λ i. Passed (piece_checks t column i m room)) n-same (subst (λ i. Passed (piece_checks t column n-told i room)) m-same p-told) in
     let present = sources_present t 1 (piece_ordered t column n m room p) in
-    let rows_are = ap (found_rows K cells words t) found-are ∙ first_rows K cells words t (omega arith) in
-    record {
-      sits = λ k h. each_at (Sits n m t) leaves k (subst (λ l. Each (Sits n m t) l) (sym found-are) (piece_sits t column n m room p)) h;
+    let rows_are = one_run (rows_of K cells words t) 0 (omega (arith, rows_long K cells words t)) in
+    subst (λ u. Brought K cells words t u column n m room) (sym same)
+    (record {
+      passed = p;
+      sits = piece_sits t column n m room p;
       rows_are = rows_are;
       tall = ap length rows_are ∙ heights_count K cells words t 0;
       fits = piece_room t column n m room p;
-    }
+    })

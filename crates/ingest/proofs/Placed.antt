@@ -1,63 +1,46 @@
 -- The rows of a table, by its leaves and by its heights. Assumes nothing.
 use Rattle.std.proofs.Common.{◌≡◌, ℕ, zero, suc, ◌+◌, ◌-◌, ◌<◌, ◌≤◌, Bool, true, false, ◌&&◌, ltb, List, [], ◌∷◌, ◌++◌, length, get_or, take, drop, replicate, is_some, Some, None, Ok, sum, Option, Result, sym, refl, ap, ◌∙◌, subst, add-one, arith}
-use Rattle.std.proofs.lemmas.Grind.{flat_map-append}
-use Rattle.std.proofs.lemmas.List.{append_assoc, append-nil, ext_get_or, get_or_append_left, get_or-append_right, get_or-take, length-append, length-take-le, take-take}
+use Rattle.std.proofs.lemmas.List.{append_assoc, ext_get_or, get_or_append_left, get_or-append_right, get_or-take, length-append, length-take-le, take-take}
 use Rattle.std.proofs.lemmas.List.Sums.{sum_by-cons}
 use Rattle.std.proofs.lemmas.Bool.{both_ways, eqb-true, lt-ltb, ltb-false, not-false}
-use Rattle.ring.specs.Checks.{Check, Passed, verdict}
+use Rattle.ring.specs.Checks.{Passed, verdict}
 use Rattle.ring.specs.Operations.{Operations}
 use Rattle.ring.proofs.Verdicts.{passed-at, passed_from_ok, passed_left, passed_right}
 use Rattle.layout.specs.Shape.{Shape, columns, height, start, area, capacity}
 use Rattle.layout.proofs.Shapes.{area-start}
 use Rattle.ring.specs.Bytes.{over}
 use Rattle.ingest.specs.declared.fault.JaggedIngestError.{JaggedIngestError}
-use Rattle.ingest.specs.declared.fault.LeafError.{LeafError}
 use Rattle.ingest.specs.declared.record.Record.{Record}
 use Rattle.ingest.specs.declared.record.Record.TheVariants.{Dense, Interleaved, Bits, Chunked}
 use Rattle.ingest.specs.Leaves.{leaf_checks, checks_of, checks_at, reach}
 use Rattle.ingest.specs.Order.{record_at, wrong_record}
 use Rattle.ingest.specs.Reading.{one_checks, columns_checks, read_checks, assembled, RowsPlaced, HeightsCountRows}
-use Rattle.ingest.specs.Rows.{leaf_rows, found_rows, rows_of, rows_at, Within}
+use Rattle.ingest.specs.Rows.{leaf_rows, found_rows, rows_of, rows_at, Sits, Within}
 use Rattle.ingest.specs.Table.{flat, leaf_height, heights_of, height_of, leaves_of, leaves_at}
 use Rattle.ingest.proofs.Tall.{heights_long}
+use Rattle.ingest.specs.Charges.{outcome}
 use Rattle.ingest.specs.Vector.{buffer_checks}
 use Rattle.ingest.proofs.Orders.{sources_present}
 use Rattle.ingest.proofs.Passings.{down_passed}
-use Rattle.ingest.proofs.Related.{Both, both_at, both_take, related}
-use Rattle.ingest.proofs.Rooms.{columns_more}
-use Rattle.ingest.proofs.Yields.{flat_split, length-yields}
+use Rattle.ingest.proofs.Related.{Both, both_at, both_take, by_leaves, related}
+use Rattle.ingest.specs.Walks.{run_of}
+use Rattle.std.specs.List.{All, flat_map}
+use Rattle.std.proofs.lemmas.List.Elements.{All-append, All-cons, All-nil}
+use Rattle.ingest.proofs.Yields.{length-yields, leaves_long, run_more, run_split}
 use Rattle.ingest.proofs.Written.{leaf_rows_long}
 
 regroup : {A : Type 0} (a b c d e : List A) → ((a ++ (b ++ c)) ++ d) ++ e ≡ a ++ (b ++ (c ++ (d ++ e)))
 regroup a b c d e = simp append_assoc
 
 module _ (K : Operations) (cells : List K.Value) (words : List ℕ) (t : List Record) where
-  abbrev Rows : List K.Value → List ℕ → Type 0
-  Rows rows leaves = rows ≡ found_rows K cells words t leaves
-
-  rows_flat : (xs : List (List K.Value)) (ys : List (List ℕ)) → Both Rows xs ys → flat xs ≡ found_rows K cells words t (flat ys)
-  rows_flat [] [] b = refl
-  rows_flat [] (y ∷ ys) b = absurd b
-  rows_flat (x ∷ xs) [] b = absurd b
-  rows_flat (x ∷ xs) (y ∷ ys) b =
-      ap (λ l. l ++ flat xs) b.0 ∙ ap (λ l. found_rows K cells words t y ++ l) (rows_flat xs ys b.1) ∙ sym (flat_map-append (λ n. leaf_rows K cells words (record_at t n)) y (flat ys))
-
   pub rows_long : length (rows_of K cells words t) ≡ length t
   unfolding rows_of
   rows_long = length-yields (λ _ r. leaf_rows K cells words r) flat 0 t
 
-  all_found : Both Rows (rows_of K cells words t) (leaves_of t)
-  unfolding rows_of leaves_of
-  all_found = related Rows (λ _ r. leaf_rows K cells words r) (λ i _. i ∷ []) flat flat t (λ i h. sym (append-nil (leaf_rows K cells words (record_at t i)))) rows_flat
-
-  -- the rows of the first columns are those of their leaves
-  pub rows_by_leaves : (s : ℕ) → flat (take s (rows_of K cells words t)) ≡ found_rows K cells words t (flat (take s (leaves_of t)))
-  rows_by_leaves s =
-      rows_flat (take s (rows_of K cells words t)) (take s (leaves_of t)) (both_take Rows s (rows_of K cells words t) (leaves_of t) all_found)
-
-  -- so are those of one record
+  -- the rows of a record are those of its leaves
   pub rows_at_leaves : (i : ℕ) → rows_at K cells words t i ≡ found_rows K cells words t (leaves_at t i)
-  rows_at_leaves i = both_at Rows [] [] refl i (rows_of K cells words t) (leaves_of t) all_found
+  unfolding rows_of
+  rows_at_leaves i = by_leaves (λ _ r. leaf_rows K cells words r) t i
 
   abbrev Tall : List K.Value → ℕ → Type 0
   Tall rows n = length rows ≡ n
@@ -95,12 +78,10 @@ module _ (K : Operations) (cells : List K.Value) (words : List ℕ) (t : List Re
     rows_placed : (old : List K.Value) → RowsPlaced K S cells words t (over (assembled K S cells words t) old)
     rows_placed old y k h l =
         let ys = rows_of K cells words t in
-        let split = flat_split ys 0 (columns S) y (omega arith) (omega arith) (omega (arith, rows_long)) in
-        let e : y - 0 ≡ y = omega arith in
-        let whole = split.1 ∙ ap (λ n. flat (take n ys) ++ (get_or ys y [] ++ split.0)) e in
+        let split = run_split ys 0 (columns S) y y (omega arith) h (omega (arith, rows_long)) in
         let pad = replicate (capacity S - area S) K.nought in
         let tail = drop (length (assembled K S cells words t)) old in
-        let joined-up = ap (λ l. (l ++ pad) ++ tail) whole ∙ regroup (flat (take y ys)) (get_or ys y []) split.0 pad tail in
+        let joined-up = ap (λ l. (l ++ pad) ++ tail) split.1 ∙ regroup (flat (take y ys)) (get_or ys y []) split.0 pad tail in
         let back : (start S y + k) - start S y ≡ k = omega arith in
         let tall = heights_count y in
         ap (λ l. get_or l (start S y + k) K.nought) joined-up
@@ -122,43 +103,27 @@ within_from_passed cells words column i (Interleaved place len first stride heig
 within_from_passed cells words column i (Bits place count height) p = (ltb-false words (place + count) p.0, ltb-false count _ p.1.0)
 within_from_passed cells words column i (Chunked from count) p = tt
 
--- each of these has the property
-abbrev pub Each : (ℕ → Type 0) → List ℕ → Type 0
-Each P [] = Unit {0}
-Each P (n ∷ ns) = P n × Each P ns
-
-each_append : (P : ℕ → Type 0) (xs ys : List ℕ) → Each P xs → Each P ys → Each P (xs ++ ys)
-each_append P [] ys p q = q
-each_append P (x ∷ xs) ys p q = (p.0, each_append P xs ys p.1 q)
-
-pub each_at : (P : ℕ → Type 0) (xs : List ℕ) (k : ℕ) → Each P xs → k < length xs → P (get_or xs k 0)
-each_at P [] k p h = absurd (omega arith)
-each_at P (x ∷ xs) zero p h = p.0
-each_at P (x ∷ xs) (suc k) p h = each_at P xs k p.1 (omega arith)
-
 module _ (cells words : ℕ) (t : List Record) where
-  -- a record that is present, and whose rows lie in the blocks
-  abbrev pub Sits : ℕ → Type 0
-  Sits n = (n < length t) × Within cells words (record_at t n)
+  pub checks_by_leaves : (column i : ℕ) → checks_at cells words column t i ≡ flat_map (λ n. leaf_checks cells words column n (record_at t n)) (leaves_at t i)
+  unfolding checks_of
+  checks_by_leaves column i = by_leaves (leaf_checks cells words column) t i
 
-  checked_flat : (xs : List (List (Check LeafError))) (ys : List (List ℕ)) → Both (λ cs ls. Passed cs → Each Sits ls) xs ys → Passed (flat xs) → Each Sits (flat ys)
-  checked_flat [] [] b p = tt
-  checked_flat [] (y ∷ ys) b p = absurd b
-  checked_flat (x ∷ xs) [] b p = absurd b
-  checked_flat (x ∷ xs) (y ∷ ys) b p = each_append Sits y (flat ys) (b.0 (passed_left x (flat xs) p)) (checked_flat xs ys b.1 (passed_right x (flat xs) p))
+  checked_sit : (column : ℕ) (ns : List ℕ) → Passed (flat_map (λ n. leaf_checks cells words column n (record_at t n)) ns) → All (Sits cells words t) ns
+  checked_sit column [] p = All-nil (Sits cells words t)
+  checked_sit column (n ∷ ns) p =
+      let here = leaf_checks cells words column n (record_at t n) in
+      let rest = flat_map (λ k. leaf_checks cells words column k (record_at t k)) ns in
+      All-cons (Sits cells words t) n ns (within_from_passed cells words column n (record_at t n) (passed_left here rest p)) (checked_sit column ns (passed_right here rest p))
 
   -- the leaves of a record whose checks pass
-  pub leaves_sit : (column i : ℕ) → Passed (checks_at cells words column t i) → Each Sits (leaves_at t i)
-  unfolding checks_of leaves_of
-  leaves_sit column i =
-      both_at (λ cs ls. Passed cs → Each Sits ls) [] [] (λ _. tt) i (checks_of cells words column t) (leaves_of t)
-      (related (λ cs ls. Passed cs → Each Sits ls) (leaf_checks cells words column) (λ j _. j ∷ []) flat flat t (λ j h p. ((h, within_from_passed cells words column j (record_at t j) p), tt)) checked_flat)
+  pub leaves_sit : (column i : ℕ) → Passed (checks_at cells words column t i) → All (Sits cells words t) (leaves_at t i)
+  leaves_sit column i p = checked_sit column (leaves_at t i) (subst Passed (checks_by_leaves column i) p)
 
-  pub columns_sit : (s : ℕ) → s ≤ length t → ((y : ℕ) → y < s → Each Sits (leaves_at t y)) → Each Sits (flat (take s (leaves_of t)))
-  columns_sit zero h each = tt
+  columns_sit : (s : ℕ) → s ≤ length t → ((y : ℕ) → y < s → All (Sits cells words t) (leaves_at t y)) → All (Sits cells words t) (run_of (leaves_of t) 0 s)
+  columns_sit zero h each = All-nil (Sits cells words t)
   columns_sit (suc s) h each =
-      subst (λ n. Each Sits (flat (take n (leaves_of t)))) (add-one s)
-      (subst (Each Sits) (sym (columns_more t s (omega arith))) (each_append Sits (flat (take s (leaves_of t))) (leaves_at t s) (columns_sit s (omega arith) (λ y l. each y (omega arith))) (each s (omega arith))))
+      subst (λ n. All (Sits cells words t) (run_of (leaves_of t) 0 n)) (add-one s)
+      (subst (All (Sits cells words t)) (sym (run_more (leaves_of t) 0 s s (omega arith) (omega (arith, leaves_long t)))) (All-append (Sits cells words t) (run_of (leaves_of t) 0 s) (leaves_at t s) (columns_sit s (omega arith) (λ y l. each y (omega arith))) (each s (omega arith))))
 
   -- what the checks of all columns tell
   module _ (S : Shape) (present : columns S ≤ length t) (passed : Passed (columns_checks S t cells words)) where
@@ -168,7 +133,7 @@ module _ (cells words : ℕ) (t : List Record) where
     heights_same : (y : ℕ) → y < columns S → height_of t y ≡ height S y
     heights_same y h = eqb-true (height_of t y) (height S y) (not-false _ (one_passed y h).1.0)
 
-    all_sit : Each Sits (flat (take (columns S) (leaves_of t)))
+    all_sit : All (Sits cells words t) (run_of (leaves_of t) 0 (columns S))
     all_sit = columns_sit (columns S) present (λ y h. leaves_sit y y (down_passed (checks_at cells words y t y) (one_passed y h).1.1))
 
 pub no_some : (w : Option ℕ) → is_some w ≡ false → w ≡ None
@@ -183,33 +148,37 @@ pub record Accepted (S : Shape) (t : List Record) (sources cells words buffer : 
   pub passed : Passed (columns_checks S t cells words)
   pub room : capacity S ≤ buffer
 
-pub accepted : (S : Shape) (t : List Record) (sources cells words buffer : ℕ) → ◌≡◌ {A = Result (Unit {0}) JaggedIngestError} (verdict (read_checks S t sources cells words buffer) tt) (Ok tt) → Accepted S t sources cells words buffer
-accepted S t sources cells words buffer granted =
-    let p = passed_from_ok (read_checks S t sources cells words buffer) tt tt granted in
+accepted : {A : Type 0} (S : Shape) (t : List Record) (sources n m n-told m-told buffer : ℕ) (r : Result A JaggedIngestError) (x : A) → outcome r ≡ verdict (read_checks S t sources n-told m-told buffer) tt → r ≡ Ok x → n-told ≡ n → m-told ≡ m → Accepted S t sources n m buffer
+accepted S t sources n m n-told m-told buffer r x answer is n-same m-same =
+    let p-told = passed_from_ok (read_checks S t sources n-told m-told buffer) tt tt (sym answer ∙ ap outcome is) in
+    let p = subst (λ i. Passed (read_checks S t sources i m buffer)) n-same (subst (λ i. Passed (read_checks S t sources n-told i buffer)) m-same p-told) in
     let same = eqb-true sources (columns S) (not-false _ p.0) in
     let none = no_some (wrong_record t sources) p.1.0 in
     record {
       same = same;
       none = none;
       present = omega (arith, sources_present t sources none);
-      passed = passed_left (columns_checks S t cells words) (buffer_checks S buffer) p.1.1;
-      room = ltb-false buffer (capacity S) (passed_right (columns_checks S t cells words) (buffer_checks S buffer) p.1.1).0;
+      passed = passed_left (columns_checks S t n m) (buffer_checks S buffer) p.1.1;
+      room = ltb-false buffer (capacity S) (passed_right (columns_checks S t n m) (buffer_checks S buffer) p.1.1).0;
     }
 
--- what it tells once the leaves are found
-pub record Ready (K : Operations) (cells : List K.Value) (words : List ℕ) (S : Shape) (t : List Record) (n m : ℕ) (leaves : List ℕ) : Type 0 where
-  pub sits : (k : ℕ) → k < length leaves → Sits n m t (get_or leaves k 0)
-  pub rows_are : found_rows K cells words t leaves ≡ flat (take (columns S) (rows_of K cells words t))
-  pub fill : length (flat (take (columns S) (rows_of K cells words t))) ≡ area S
+-- and of the records that were checked
+pub record Ready (K : Operations) (cells : List K.Value) (words : List ℕ) (S : Shape) (t o : List Record) (sources n m buffer : ℕ) : Type 0 where
+  pub ok : Accepted S t sources n m buffer
+  pub sits : All (Sits n m o) (run_of (leaves_of o) 0 sources)
+  pub rows_are : run_of (rows_of K cells words o) 0 sources ≡ run_of (rows_of K cells words t) 0 (columns S)
+  pub fill : length (run_of (rows_of K cells words t) 0 (columns S)) ≡ area S
   pub placed : (old : List K.Value) → RowsPlaced K S cells words t (over (assembled K S cells words t) old)
 
-pub ready : (K : Operations) (cells : List K.Value) (words : List ℕ) (S : Shape) (t : List Record) (sources n m buffer : ℕ) (leaves : List ℕ) → Accepted S t sources n m buffer → leaves ≡ flat (take sources (leaves_of t)) → Ready K cells words S t n m leaves
-ready K cells words S t sources n m buffer leaves ok are =
-    let found-are = are ∙ ap (λ k. flat (take k (leaves_of t))) ok.same in
-    let same = heights_same n m t S ok.present ok.passed in
-    record {
-      sits = λ k h. each_at (Sits n m t) leaves k (subst (λ l. Each (Sits n m t) l) (sym found-are) (all_sit n m t S ok.present ok.passed)) h;
-      rows_are = ap (found_rows K cells words t) found-are ∙ sym (rows_by_leaves K cells words t (columns S));
-      fill = rows_fill K cells words t S ok.present same;
-      placed = rows_placed K cells words t S ok.present same;
-    }
+pub ready : {A : Type 0} (K : Operations) (cells : List K.Value) (words : List ℕ) (S : Shape) (t o : List Record) (sources n m n-told m-told buffer : ℕ) (r : Result A JaggedIngestError) (x : A) → outcome r ≡ verdict (read_checks S t sources n-told m-told buffer) tt → r ≡ Ok x → o ≡ t → n-told ≡ n → m-told ≡ m → Ready K cells words S t o sources n m buffer
+ready K cells words S t o sources n m n-told m-told buffer r x answer is same n-same m-same =
+    let ok = accepted S t sources n m n-told m-told buffer r x answer is n-same m-same in
+    let heights = heights_same n m t S ok.present ok.passed in
+    subst (λ u. Ready K cells words S t u sources n m buffer) (sym same)
+    (record {
+      ok = ok;
+      sits = subst (λ s. All (Sits n m t) (run_of (leaves_of t) 0 s)) (sym ok.same) (all_sit n m t S ok.present ok.passed);
+      rows_are = ap (run_of (rows_of K cells words t) 0) ok.same;
+      fill = rows_fill K cells words t S ok.present heights;
+      placed = rows_placed K cells words t S ok.present heights;
+    })

@@ -1,9 +1,13 @@
 -- Two things that the records of a table yield, related record by record. Assumes nothing.
-use Rattle.std.proofs.Common.{◌≡◌, ℕ, zero, suc, ◌+◌, ◌-◌, ◌<◌, List, [], ◌∷◌, length, get_or, take, drop, sym, ap, ◌∙◌, subst, add-zero, arith}
+use Rattle.std.proofs.Common.{◌≡◌, ℕ, zero, suc, ◌+◌, ◌-◌, ◌<◌, List, [], ◌∷◌, ◌++◌, length, get_or, take, drop, fold, sym, refl, ap, ◌∙◌, subst, add-zero, arith}
+use Rattle.std.specs.List.{flat_map}
+use Rattle.std.proofs.lemmas.Grind.{flat_map-append}
+use Rattle.std.proofs.lemmas.List.{append-nil}
+use Rattle.std.proofs.lemmas.List.Sums.{fold-append}
 use Rattle.ingest.specs.declared.record.Record.{Record}
 use Rattle.ingest.specs.declared.record.Record.TheVariants.{Dense, Interleaved, Bits, Chunked}
 use Rattle.ingest.specs.Order.{record_at}
-use Rattle.ingest.specs.Table.{yielded, yields}
+use Rattle.ingest.specs.Table.{yielded, yields, flat, leaves_of, leaves_at}
 
 module _ {A B : Type 0} (Rel : A → B → Type 0) where
   -- lists of one length, related element by element
@@ -54,3 +58,39 @@ module _ {A B : Type 0} (Rel : A → B → Type 0) where
     -- related for leaves and kept by chunks, so related for every record
     pub related : Both (yields f p 0 t) (yields g q 0 t)
     related = from_record 0 t (omega arith) (λ k h. let s : 0 + k ≡ k = omega arith in ap (record_at t) s)
+
+-- what a chunk has is that of its leaves, one after the other
+module _ {A : Type 0} (f : ℕ → Record → List A) (t : List Record) where
+  abbrev of_leaves : List ℕ → List A
+  of_leaves leaves = flat_map (λ n. f n (record_at t n)) leaves
+
+  by_leaves_flat : (xs : List (List A)) (ys : List (List ℕ)) → Both (λ x y. x ≡ of_leaves y) xs ys → flat xs ≡ of_leaves (flat ys)
+  by_leaves_flat [] [] b = refl
+  by_leaves_flat [] (y ∷ ys) b = absurd b
+  by_leaves_flat (x ∷ xs) [] b = absurd b
+  by_leaves_flat (x ∷ xs) (y ∷ ys) b = ap (λ l. l ++ flat xs) b.0 ∙ ap (λ l. of_leaves y ++ l) (by_leaves_flat xs ys b.1) ∙ sym (flat_map-append (λ n. f n (record_at t n)) y (flat ys))
+
+  pub by_leaves : (i : ℕ) → get_or (yields f flat 0 t) i [] ≡ flat_map (λ n. f n (record_at t n)) (leaves_at t i)
+  unfolding leaves_of
+  by_leaves i =
+      both_at (λ x y. x ≡ of_leaves y) [] [] refl i (yields f flat 0 t) (leaves_of t)
+      (related (λ x y. x ≡ of_leaves y) f (λ n _. n ∷ []) flat flat t (λ n h. sym (append-nil (f n (record_at t n)))) by_leaves_flat)
+
+-- so is what a chunk folds of its parts, where that can be folded leaf by leaf
+module _ {A : Type 0} (f : A → A → A) (none : A) (P : A → Type 0) (g : Record → A)
+    (keeps : (a x : A) → P a → P (f a x)) (joins : (a : A) (xs : List A) → P a → f a (fold f none xs) ≡ fold f a xs) (t : List Record) where
+  abbrev Folded : A → List ℕ → Type 0
+  Folded x leaves = (a : A) → P a → fold (λ b n. f b (g (record_at t n))) a leaves ≡ f a x
+
+  folded_flat : (xs : List A) (ys : List (List ℕ)) → Both Folded xs ys → (a : A) → P a → fold (λ b n. f b (g (record_at t n))) a (flat ys) ≡ fold f a xs
+  folded_flat [] [] b a p = refl
+  folded_flat [] (y ∷ ys) b a p = absurd b
+  folded_flat (x ∷ xs) [] b a p = absurd b
+  folded_flat (x ∷ xs) (y ∷ ys) b a p =
+      fold-append (λ c n. f c (g (record_at t n))) a y (flat ys) ∙ ap (λ c. fold (λ d n. f d (g (record_at t n))) c (flat ys)) (b.0 a p) ∙ folded_flat xs ys b.1 (f a x) (keeps a x p)
+
+  pub folded : (i : ℕ) (a : A) → P a → fold (λ b n. f b (g (record_at t n))) a (leaves_at t i) ≡ f a (get_or (yields (λ _ r. g r) (fold f none) 0 t) i none)
+  unfolding leaves_of
+  folded i =
+      both_at Folded none [] (λ a p. sym (joins a [] p)) i (yields (λ _ r. g r) (fold f none) 0 t) (leaves_of t)
+      (related Folded (λ _ r. g r) (λ n _. n ∷ []) (fold f none) flat t (λ n h a p. refl) (λ xs ys b a p. folded_flat xs ys b a p ∙ sym (joins a xs p)))

@@ -1,56 +1,75 @@
--- A chunk's height, part by part. Assumes nothing.
-use Rattle.std.proofs.Common.{◌≡◌, ℕ, ◌+◌, ◌-◌, ◌<◌, ◌≤◌, List, [], ◌∷◌, ◌++◌, length, get_or, take, drop, set, Some, sum, Option, sym, ap, ◌∙◌, subst, arith}
-use Rattle.std.proofs.lemmas.List.{append_assoc, drop_more, length-take-le, set_at, take_more, take-take}
-use Rattle.std.proofs.lemmas.List.Sums.{sum_by-take-le}
-use Rattle.std.specs.Option.{SomeIff}
-use Rattle.ring.specs.Bytes.{over}
+-- Heights and passes by the leaves of a record. Assumes nothing.
+use Rattle.std.proofs.Common.{◌≡◌, ℕ, zero, suc, ◌+◌, ◌<◌, ◌≤◌, max, ltb, List, [], ◌∷◌, length, fold, sum, sym, refl, ap, ◌∙◌, ⊎_elim, arith}
+use Rattle.std.specs.List.{sum_by}
+use Rattle.std.proofs.lemmas.Bool.{cond-true, cond-false, lt-ltb, le-ltb, cases_lt}
+use Rattle.std.proofs.lemmas.List.Sums.{sum_by-cons}
+use Rattle.ingest.specs.declared.record.ConversionPass.{ConversionPass}
+use Rattle.ingest.specs.declared.record.ConversionPass.TheVariants.{Shared, Copied, Gathered, Widened}
 use Rattle.ingest.specs.declared.record.Record.{Record}
-use Rattle.ingest.specs.declared.record.Record.TheVariants.{Chunked}
 use Rattle.ingest.specs.Order.{record_at}
-use Rattle.ingest.specs.Table.{leaf_height, heights_of, height_of}
-use Rattle.ingest.proofs.Yields.{fold_at, length-yields, yield_leaf, yield_chunk}
+use Rattle.ingest.specs.Passes.{rank_of, higher_of}
+use Rattle.ingest.specs.Table.{Sound, leaf_height, heights_of, height_of, leaf_pass, passes_of, pass_of, leaves_at}
+use Rattle.ingest.proofs.Parts.{pass_converted}
+use Rattle.ingest.proofs.Related.{folded}
+use Rattle.ingest.proofs.Yields.{length-yields}
 
-module _ (t : List Record) where
-  pub heights_long : length (heights_of t) ≡ length t
-  unfolding heights_of
-  heights_long = length-yields (λ _ r. leaf_height r) sum 0 t
+pub heights_long : (t : List Record) → length (heights_of t) ≡ length t
+unfolding heights_of
+heights_long t = length-yields (λ _ r. leaf_height r) sum 0 t
 
-  pub height_leaf : (i : ℕ) → i < length t → ((from count : ℕ) → record_at t i ≡ Chunked from count → ⊥) → height_of t i ≡ leaf_height (record_at t i)
-  unfolding heights_of
-  height_leaf i h no_Chunk = yield_leaf (λ _ r. leaf_height r) sum t i 0 h no_Chunk
+sum_joins : (a : ℕ) (xs : List ℕ) → a + sum xs ≡ fold (λ b x. b + x) a xs
+sum_joins a [] = omega arith
+sum_joins a (x ∷ xs) = omega (arith, sum_by-cons (λ n. n) x xs, sum_joins (a + x) xs)
 
-  pub height_chunk : (i from count : ℕ) → i < length t → record_at t i ≡ Chunked from count → i < from → height_of t i ≡ sum (take count (drop from (heights_of t)))
-  unfolding heights_of
-  height_chunk i from count h e later = yield_chunk (λ _ r. leaf_height r) sum t i 0 h from count e later
+pub height_by_leaves : (t : List Record) (i : ℕ) → sum_by (λ n. leaf_height (record_at t n)) (leaves_at t i) ≡ height_of t i
+unfolding heights_of
+height_by_leaves t i = let none : 0 + height_of t i ≡ height_of t i = omega arith in folded (λ a x. a + x) 0 (λ _. Unit {0}) leaf_height (λ _ _ _. tt) (λ a xs _. sum_joins a xs) t i 0 tt ∙ none
 
-  -- fewer parts have no more rows
-  pub run_le : (from k count : ℕ) → k ≤ count → sum (take k (drop from (heights_of t))) ≤ sum (take count (drop from (heights_of t)))
-  run_le from k count h =
-      subst (λ l. sum l ≤ sum (take count (drop from (heights_of t)))) (take-take k count (drop from (heights_of t)) h)
-      (sum_by-take-le (λ x. x) (take count (drop from (heights_of t))) k)
+pass_at_rank : ℕ → ConversionPass
+pass_at_rank zero = Shared
+pass_at_rank (suc zero) = Copied
+pass_at_rank (suc (suc zero)) = Gathered
+pass_at_rank (suc (suc (suc n))) = Widened
 
-  -- the parts of a run up to part p, and one more
-  pub run_at : (from p : ℕ) → from ≤ p → p < length t → sum (take (p + 1 - from) (drop from (heights_of t))) ≡ sum (take (p - from) (drop from (heights_of t))) + height_of t p
-  run_at from p low h = fold_at (λ a x. a + x) 0 (heights_of t) from p 0 low (omega (arith, heights_long))
+same_pass : (p : ConversionPass) → pass_at_rank (rank_of p) ≡ p
+unfolding pass_at_rank
+same_pass Shared = refl
+same_pass Copied = refl
+same_pass Gathered = refl
+same_pass Widened = refl
 
-  -- a part and those before it have no more rows than the chunk
-  pub part_le : (i from count p : ℕ) → height_of t i ≡ sum (take count (drop from (heights_of t))) → from ≤ p → p < from + count → from + count ≤ length t → sum (take (p - from) (drop from (heights_of t))) + height_of t p ≤ height_of t i
-  part_le i from count p e low high present = omega (arith, run_at from p low (omega arith), run_le from (p + 1 - from) count (omega arith))
+by_rank : (p q : ConversionPass) → rank_of p ≡ rank_of q → p ≡ q
+by_rank p q e = sym (same_pass p) ∙ ap pass_at_rank e ∙ same_pass q
 
-  -- one height more at the front of a slice
-  pub put_more : (old : List ℕ) (c v : ℕ) → c < length t → c < length old → v ≡ height_of t c → set (over (take c (heights_of t)) old) c v ≡ over (take (c + 1) (heights_of t)) old
-  put_more old c v h room e =
-      let hs = heights_of t in
-      let long : length (take c hs) ≡ c = length-take-le c hs (omega (arith, heights_long)) in
-      let long2 : length (take (c + 1) hs) ≡ c + 1 = length-take-le (c + 1) hs (omega (arith, heights_long)) in
-      ap (λ n. set (take c hs ++ drop n old) c v) long
-      ∙ ap (λ l. set (take c hs ++ l) c v) (drop_more old c 0 room)
-      ∙ set_at (take c hs) (get_or old c 0) (drop (c + 1) old) v c long
-      ∙ ap (λ x. take c hs ++ x ∷ drop (c + 1) old) e
-      ∙ sym (append_assoc (take c hs) (get_or hs c 0 ∷ []) (drop (c + 1) old))
-      ∙ ap (λ l. l ++ drop (c + 1) old) (sym (take_more hs c 0 (omega (arith, heights_long))))
-      ∙ ap (λ n. take (c + 1) hs ++ drop n old) (sym long2)
+higher_rank : (p q : ConversionPass) → rank_of (higher_of p q) ≡ max (rank_of p) (rank_of q)
+higher_rank p q =
+    ⊎_elim
+    (λ lower. omega (arith, ap rank_of (cond-true (ltb (rank_of p) (rank_of q)) q p (lt-ltb (rank_of p) (rank_of q) lower))))
+    (λ other. omega (arith, ap rank_of (cond-false (ltb (rank_of p) (rank_of q)) q p (le-ltb (rank_of p) (rank_of q) other))))
+    (cases_lt (rank_of p) (rank_of q))
 
--- the height that is found
-pub height_of_some : (r : Option ℕ) (P : Type 0) (v x : ℕ) → SomeIff r P v → r ≡ Some x → x ≡ v
-height_of_some r P v x told e = let k : SomeIff (Some x) P v = subst (λ o. SomeIff o P v) e told in k.1
+higher_assoc : (p q r : ConversionPass) → higher_of p (higher_of q r) ≡ higher_of (higher_of p q) r
+higher_assoc p q r =
+    by_rank (higher_of p (higher_of q r)) (higher_of (higher_of p q) r)
+    (omega (arith, higher_rank p (higher_of q r), higher_rank q r, higher_rank (higher_of p q) r, higher_rank p q))
+
+highest_joins : (p q : ConversionPass) (xs : List ConversionPass) → higher_of p (fold higher_of q xs) ≡ fold higher_of (higher_of p q) xs
+highest_joins p q [] = refl
+highest_joins p q (x ∷ xs) = highest_joins p (higher_of q x) xs ∙ ap (λ b. fold higher_of b xs) (higher_assoc p q x)
+
+-- none of these is shared
+abbrev Converted : ConversionPass → Type 0
+Converted p = 1 ≤ rank_of p
+
+copied_least : (p : ConversionPass) → Converted p → higher_of p Copied ≡ p
+copied_least p h = by_rank (higher_of p Copied) p (omega (arith, higher_rank p Copied))
+
+pub pass_by_leaves : (t : List Record) → Sound t → (i : ℕ) → i < length t → fold (λ b n. higher_of b (leaf_pass (record_at t n))) Copied (leaves_at t i) ≡ pass_of t i
+unfolding passes_of
+pass_by_leaves t sound i h =
+    let low = pass_converted t sound i h in
+    folded higher_of Copied Converted leaf_pass
+    (λ p q c. omega (arith, higher_rank p q))
+    (λ p xs c. highest_joins p Copied xs ∙ ap (λ b. fold higher_of b xs) (copied_least p c))
+    t i Copied (omega arith)
+    ∙ by_rank (higher_of Copied (pass_of t i)) (pass_of t i) (omega (arith, higher_rank Copied (pass_of t i)))

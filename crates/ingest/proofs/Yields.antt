@@ -1,11 +1,11 @@
 -- What one record yields, by what its parts yield. Assumes nothing.
-use Rattle.std.proofs.Common.{◌≡◌, ℕ, zero, suc, ◌+◌, ◌-◌, ◌<◌, ◌≤◌, List, [], ◌∷◌, ◌++◌, length, get_or, take, drop, fold, sym, refl, ap, ◌∙◌, add-zero, arith}
-use Rattle.std.proofs.lemmas.List.{append_assoc, drop-drop, get_or-drop, get_or-take, flat_map_more, length-drop, length-take-le, take_more, take-take}
-use Rattle.std.proofs.lemmas.List.Sums.{fold_more}
+use Rattle.std.proofs.Common.{◌≡◌, ℕ, zero, suc, ◌+◌, ◌-◌, ◌<◌, ◌≤◌, List, [], ◌∷◌, ◌++◌, length, get_or, take, drop, sym, refl, ap, ◌∙◌, add-zero, arith}
+use Rattle.std.proofs.lemmas.List.{append_assoc, append-nil, drop-drop, drop_more, get_or-drop, get_or-take, flat_map_more, length-drop, length-take-le, take_more, take-take}
 use Rattle.ingest.specs.declared.record.Record.{Record}
 use Rattle.ingest.specs.declared.record.Record.TheVariants.{Dense, Interleaved, Bits, Chunked}
 use Rattle.ingest.specs.Order.{record_at}
-use Rattle.ingest.specs.Table.{yielded, yields, flat}
+use Rattle.ingest.specs.Table.{yielded, yields, flat, leaves_of, leaves_at}
+use Rattle.ingest.specs.Walks.{run_of}
 
 module _ {A : Type 0} (leaf : ℕ → Record → A) (chunk : List A → A) where
   pub length-yields : (a : ℕ) (t : List Record) → length (yields leaf chunk a t) ≡ length t
@@ -45,24 +45,16 @@ module _ {A : Type 0} (leaf : ℕ → Record → A) (chunk : List A → A) where
         yield_is (Chunked from count) e
         ∙ ap (λ l. chunk (take count l)) (drop-drop (from - (i + 1)) (i + 1) (yields leaf chunk 0 t) ∙ ap (λ n. drop n (yields leaf chunk 0 t)) back)
 
--- a fold over the first parts of a run, and one part more
-pub fold_at : {A B : Type 0} (f : B → A → B) (b : B) (ys : List A) (from p : ℕ) (d : A) → from ≤ p → p < length ys → fold f b (take (p + 1 - from) (drop from ys)) ≡ f (fold f b (take (p - from) (drop from ys))) (get_or ys p d)
-fold_at f b ys from p d low h =
-    let e : p + 1 - from ≡ (p - from) + 1 = omega arith in
-    let back : from + (p - from) ≡ p = omega arith in
-    ap (λ n. fold f b (take n (drop from ys))) e
-    ∙ fold_more f b (drop from ys) (p - from) d (omega (arith, length-drop from ys))
-    ∙ ap (λ x. f (fold f b (take (p - from) (drop from ys))) x) (get_or-drop from ys (p - from) d ∙ ap (λ n. get_or ys n d) back)
+-- a run of one record
+pub one_run : {A : Type 0} (ys : List (List A)) (i : ℕ) → i < length ys → run_of ys i 1 ≡ get_or ys i []
+one_run ys i h = ap (λ l. flat (take 1 l)) (drop_more ys i [] h) ∙ append-nil (get_or ys i [])
 
--- parts one after the other, up to one of them and past it
-pub flat_more : {A : Type 0} (ys : List (List A)) (from p : ℕ) → from ≤ p → p < length ys → flat (take (p + 1 - from) (drop from ys)) ≡ flat (take (p - from) (drop from ys)) ++ get_or ys p []
-flat_more ys from p low h =
-    let e : p + 1 - from ≡ (p - from) + 1 = omega arith in
-    let back : from + (p - from) ≡ p = omega arith in
-    ap (λ n. flat (take n (drop from ys))) e
-    ∙ ap flat (take_more (drop from ys) (p - from) [] (omega (arith, length-drop from ys)))
-    ∙ sym (flat_map_more (λ part. part) [] (take (p - from) (drop from ys)) (get_or (drop from ys) (p - from) []))
-    ∙ ap (λ x. flat (take (p - from) (drop from ys)) ++ x) (get_or-drop from ys (p - from) [] ∙ ap (λ n. get_or ys n []) back)
+-- a run of k parts, and one part more
+pub run_more : {A : Type 0} (ys : List (List A)) (from k p : ℕ) → from + k ≡ p → p < length ys → run_of ys from (k + 1) ≡ run_of ys from k ++ get_or ys p []
+run_more ys from k p at h =
+    ap flat (take_more (drop from ys) k [] (omega (arith, length-drop from ys)))
+    ∙ sym (flat_map_more (λ part. part) [] (take k (drop from ys)) (get_or (drop from ys) k []))
+    ∙ ap (λ x. run_of ys from k ++ x) (get_or-drop from ys k [] ∙ ap (λ n. get_or ys n []) at)
 
 split_at : {A : Type 0} (zs : List (List A)) (k : ℕ) → k < length zs → flat zs ≡ flat (take k zs) ++ (get_or zs k [] ++ flat (drop (k + 1) zs))
 split_at [] k h = absurd (omega arith)
@@ -72,17 +64,26 @@ split_at (z ∷ zs) (suc k) h =
     ap (λ l. z ++ l) (split_at zs k (omega arith)) ∙ sym (append_assoc z (flat (take k zs)) (get_or zs k [] ++ flat (drop (k + 1) zs)))
     ∙ ap (λ n. (z ++ flat (take k zs)) ++ (get_or zs k [] ++ flat (drop n (z ∷ zs)))) e
 
-pub flat_split : {A : Type 0} (ys : List (List A)) (from count p : ℕ) → from ≤ p → p < from + count → from + count ≤ length ys → (rest : List A) × (flat (take count (drop from ys)) ≡ flat (take (p - from) (drop from ys)) ++ (get_or ys p [] ++ rest))
-flat_split ys from count p low high present =
+-- a run, up to one of its parts and past it
+pub run_split : {A : Type 0} (ys : List (List A)) (from count k p : ℕ) → from + k ≡ p → k < count → from + count ≤ length ys → (rest : List A) × (run_of ys from count ≡ run_of ys from k ++ (get_or ys p [] ++ rest))
+run_split ys from count k p at h present =
     let zs = take count (drop from ys) in
-    let back : from + (p - from) ≡ p = omega arith in
     let long : length zs ≡ count = length-take-le count (drop from ys) (omega (arith, length-drop from ys)) in (
-      flat (drop (p - from + 1) zs),
-      split_at zs (p - from) (omega arith)
-          ∙ ap (λ l. flat l ++ (get_or zs (p - from) [] ++ flat (drop (p - from + 1) zs))) (take-take (p - from) count (drop from ys) (omega arith))
-          ∙ ap (λ x. flat (take (p - from) (drop from ys)) ++ (x ++ flat (drop (p - from + 1) zs))) (get_or-take count (drop from ys) (p - from) [] (omega arith) ∙ get_or-drop from ys (p - from) [] ∙ ap (λ n. get_or ys n []) back),
+      flat (drop (k + 1) zs),
+      split_at zs k (omega arith)
+          ∙ ap (λ l. flat l ++ (get_or zs k [] ++ flat (drop (k + 1) zs))) (take-take k count (drop from ys) (omega arith))
+          ∙ ap (λ x. run_of ys from k ++ (x ++ flat (drop (k + 1) zs))) (get_or-take count (drop from ys) k [] h ∙ get_or-drop from ys k [] ∙ ap (λ n. get_or ys n []) at),
     )
 
-pub flat_append : {A : Type 0} (xs ys : List (List A)) → flat (xs ++ ys) ≡ flat xs ++ flat ys
-flat_append [] ys = refl
-flat_append (x ∷ xs) ys = ap (λ l. x ++ l) (flat_append xs ys) ∙ sym (append_assoc x (flat xs) (flat ys))
+module _ (t : List Record) where
+  pub leaves_long : length (leaves_of t) ≡ length t
+  unfolding leaves_of
+  leaves_long = length-yields (λ i _. i ∷ []) flat 0 t
+
+  pub leaves_leaf : (i : ℕ) → i < length t → ((from count : ℕ) → record_at t i ≡ Chunked from count → ⊥) → leaves_at t i ≡ i ∷ []
+  unfolding leaves_of
+  leaves_leaf i h no_Chunk = yield_leaf (λ i _. i ∷ []) flat t i [] h no_Chunk
+
+  pub leaves_chunk : (i from count : ℕ) → i < length t → record_at t i ≡ Chunked from count → i < from → leaves_at t i ≡ run_of (leaves_of t) from count
+  unfolding leaves_of
+  leaves_chunk i from count h e later = yield_chunk (λ i _. i ∷ []) flat t i [] h from count e later

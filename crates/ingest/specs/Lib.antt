@@ -2,7 +2,6 @@ pub mod Asked
 pub mod Charges
 pub mod Cuts
 pub mod Faults
-pub mod Found
 pub mod Leaves
 pub mod Order
 pub mod Parts
@@ -11,4 +10,6 @@ pub mod Piece
 pub mod Reading
 pub mod Rows
 pub mod Table
+pub mod Texts
 pub mod Vector
+pub mod Walks

@@ -41,3 +41,7 @@ Within cells words (Dense place height) = place + height ≤ cells
 Within cells words (Interleaved place len first stride height) = (place + len ≤ cells) × (0 < height → reach first stride height ≤ len)
 Within cells words (Bits place count height) = (place + count ≤ words) × (words_for height ≤ count)
 Within cells words (Chunked from count) = Unit {0}
+
+-- so do those of record n of a table
+abbrev pub Sits : ℕ → ℕ → List Record → ℕ → Type 0
+Sits cells words table n = Within cells words (record_at table n)

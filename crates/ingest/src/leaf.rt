@@ -1,57 +1,68 @@
 // What is checked of a leaf before its rows are read.
-ghost use Rattle.std.specs.Prelude.{◌≡◌, ◌<◌, length};
+ghost use Rattle.std.specs.Prelude.{◌≡◌, ◌+◌, ◌<◌, [], ◌∷◌, length};
 ghost use Rattle.ring.specs.Checks.{verdict};
-ghost use Rattle.ingest.specs.Leaves.{leaf_checks, strided_checks, packed_checks, checks_at};
-ghost use Rattle.ingest.specs.Table.{Sound};
+ghost use Rattle.ingest.specs.Leaves.{leaf_checks, place_check, strided_checks, packed_checks, checks_at};
 
+use crate::block::Extent;
 use crate::fault::LeafError;
+use crate::ordered::Ordered;
 use crate::record::Record;
 
 // The rows that one word of bits holds.
 pub(crate) const WORD_BITS: usize = 64;
 
-// Checks record number `record`, a leaf of the column, against the lengths of the two blocks.
-// What a block has after the place is compared, since the end may be no machine index.
-pub(crate) fn check_leaf(
-    entry: Record,
-    record: usize,
-    column: usize,
-    cells: usize,
-    block_words: usize,
-) -> Result<(), LeafError>
-    ensures { result ≡ verdict (leaf_checks cells block_words column «record» entry) tt }
-{
-    match entry {
-        Record::Dense { place, height } => {
-            if cells < place || cells - place < height {
-                return Err(LeafError::PlaceOutsideBlock { column, record });
+impl Extent {
+    // Checks record number `record`, a leaf of the column, against the lengths of the two blocks.
+    pub(crate) fn check_leaf(
+        self,
+        entry: Record,
+        record: usize,
+        column: usize,
+    ) -> Result<(), LeafError>
+        ensures { result ≡ verdict (leaf_checks self.cells self.words column «record» entry) tt }
+    {
+        match entry {
+            Record::Dense { place, height } => {
+                check_place(column, record, self.cells, place, height)
             }
-            Ok(())
-        }
-        Record::Interleaved {
-            place,
-            length,
-            first,
-            stride,
-            height,
-        } => {
-            if cells < place || cells - place < length {
-                return Err(LeafError::PlaceOutsideBlock { column, record });
+            Record::Interleaved {
+                place,
+                length,
+                first,
+                stride,
+                height,
+            } => {
+                check_place(column, record, self.cells, place, length)?;
+                check_strided(column, length, first, stride, height)
             }
-            check_strided(column, length, first, stride, height)
-        }
-        Record::Bits {
-            place,
-            words,
-            height,
-        } => {
-            if block_words < place || block_words - place < words {
-                return Err(LeafError::PlaceOutsideBlock { column, record });
+            Record::Bits {
+                place,
+                words,
+                height,
+            } => {
+                check_place(column, record, self.words, place, words)?;
+                check_packed(column, words, height)
             }
-            check_packed(column, words, height)
+            Record::Chunked { .. } => Ok(()),
         }
-        Record::Chunked { .. } => Ok(()),
     }
+}
+
+// Checks that so many cells or words from the place on lie in a block of this length.
+// What the block has after the place is compared, since the end may be no machine index.
+fn check_place(
+    column: usize,
+    record: usize,
+    block: usize,
+    place: usize,
+    count: usize,
+) -> Result<(), LeafError>
+    ensures { result ≡ verdict (place_check column «record» block (place + count) ∷ []) tt }
+{
+    if block < place || block - place < count {
+        return Err(LeafError::PlaceOutsideBlock { column, record });
+    }
+    Ok(())
 }
 
 fn check_strided(
@@ -71,16 +82,12 @@ fn check_strided(
         return Err(LeafError::ZeroStride { column });
     }
     // The last row is the only one that can leave the part.
+    // An index is widened by `as`, since no `From` makes a `u128` of it.
     let required = first as u128 + (height as u128 - 1) * stride as u128 + 1;
     if required > available as u128 {
-        let required = if required > u64::MAX as u128 {
-            usize::MAX
-        } else {
-            required as usize
-        };
         return Err(LeafError::StrideOutOfRange {
             column,
-            required,
+            required: usize::try_from(required).unwrap_or(usize::MAX),
             available,
         });
     }
@@ -101,34 +108,22 @@ fn check_packed(column: usize, available: usize, height: usize) -> Result<(), Le
     Ok(())
 }
 
-// Checks the leaves of a record, in the order of their rows.
-pub(crate) fn check_leaves(
-    table: &[Record],
-    record: usize,
-    column: usize,
-    cells: usize,
-    block_words: usize,
-) -> Result<(), LeafError>
-    requires sound { Sound table.now }
-    requires within { «record» < length table.now }
-    ensures { result ≡ verdict (checks_at cells block_words column table.now «record») tt }
-{
-    match table[record] {
-        Record::Chunked { from, count } => {
-            for part in from..from + count {
-                match table[part] {
-                    Record::Chunked { .. } => check_leaves(
-                        table,
-                        part,
-                        column,
-                        cells,
-                        block_words,
-                    )?,
-                    leaf => check_leaf(leaf, part, column, cells, block_words)?,
-                }
-            }
-            Ok(())
-        }
-        leaf => check_leaf(leaf, record, column, cells, block_words),
+impl<'a> Ordered<'a> {
+    // Checks the leaves of a record, in the order of their rows.
+    pub(crate) fn check_leaves(
+        &self,
+        record: usize,
+        column: usize,
+        extent: Extent,
+    ) -> Result<(), LeafError>
+        requires { «record» < length self.now.records.now }
+        ensures { result ≡ verdict (checks_at extent.cells extent.words column self.now.records.now «record») tt }
+    {
+        self.try_fold(
+            record,
+            1,
+            (),
+            &|_: (), number: usize, leaf: Record| { extent.check_leaf(leaf, number, column) },
+        )
     }
 }

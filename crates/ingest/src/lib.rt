@@ -2,15 +2,17 @@
 #![tactic(auto)]
 
 mod account;
+mod block;
 mod fault;
-mod find;
 mod leaf;
-mod leaves;
+mod ordered;
 mod piece;
 mod read;
 mod record;
 mod report;
 mod table;
+mod text;
+mod walk;
 mod witness;
 mod write;
 

@@ -1,50 +1,47 @@
 // Pieces of a column: tables whose first record alone is a column.
-ghost use Rattle.std.specs.Prelude.{◌≡◌, map, length, drop, MatchResult, OnOk};
+ghost use Rattle.std.specs.Prelude.{◌≡◌, map, length, drop, IfOk, MatchResult, OnOk};
 ghost use Rattle.ring.specs.Bytes.{over};
 ghost use Rattle.ring.specs.Checks.{verdict};
+ghost use Rattle.ingest.specs.Charges.{outcome};
 ghost use Rattle.ingest.specs.Cuts.{PieceByRows, PieceByCuts, RowLaws};
 ghost use Rattle.ingest.specs.Piece.{piece_height_checks, piece_checks};
 ghost use Rattle.ingest.specs.Rows.{rows_at};
 ghost use Rattle.ingest.specs.Table.{height_of};
 
+use crate::block::{Block, Extent};
 use crate::fault::JaggedIngestError;
-use crate::leaf::check_leaves;
-use crate::read::find_all;
+use crate::ordered::Ordered;
 use crate::record::Record;
-use crate::table::{check_order, height_of};
-use crate::write::write_leaves;
 use ring::Ring;
 
 // The number of rows of a piece for the named column.
 pub fn piece_height(table: &[Record], column: usize) -> Result<usize, JaggedIngestError>
     ensures { result ≡ verdict (piece_height_checks table.now column) (height_of table.now 0) }
 {
-    check_order(table, 1)?;
-    match height_of(table, 0) {
-        Some(rows) => Ok(rows),
-        None => Err(JaggedIngestError::ColumnHeightOverflow { column }),
-    }
+    let ordered = Ordered::check(table, 1)?;
+    ordered.height_of(0, column)
 }
 
-// Runs every check of a piece, and gives its height.
-fn check_piece(
-    table: &[Record],
+// Runs every check of a piece.
+fn check_piece<'a>(
+    table: &'a [Record],
     column: usize,
-    cells: usize,
-    words: usize,
+    extent: Extent,
     room: usize,
-) -> Result<usize, JaggedIngestError>
-    ensures { result ≡ verdict (piece_checks table.now column cells words room) (height_of table.now 0) }
+) -> Result<Ordered<'a>, JaggedIngestError>
+    ensures answer { outcome result ≡ verdict (piece_checks table.now column extent.cells extent.words room) tt }
+    ensures same { IfOk result (λ o. (o.records.now ≡ table.now) × (o.sources ≡ 1)) }
 {
-    let rows = piece_height(table, column)?;
-    check_leaves(table, 0, column, cells, words)?;
+    let ordered = Ordered::check(table, 1)?;
+    let rows = ordered.height_of(0, column)?;
+    ordered.check_leaves(0, column, extent)?;
     if room < rows {
         return Err(JaggedIngestError::BufferTooShort {
             required: rows,
             available: room,
         });
     }
-    Ok(rows)
+    Ok(ordered)
 }
 
 // Writes the rows of a piece to the front of the cells that are lent for them, and tells how many.
@@ -62,8 +59,7 @@ pub fn write_piece<R: Ring>(
     ensures laws { OnOk result (RowLaws R.Ring.ops (map R.Ring.value cells.now) words.now table.now) }
     ensures kept { drop (height_of table.now 0) out.new ≡ drop (height_of table.now 0) out.old }
 {
-    let rows = check_piece(table, column, cells.len(), words.len(), out.len())?;
-    let leaves = find_all(table, 1);
-    write_leaves(&leaves, table, cells, words, out);
-    Ok(rows)
+    let block = Block { cells, words };
+    let ordered = check_piece(table, column, block.extent(), out.len())?;
+    Ok(ordered.write_run(0, 1, &block, out))
 }

@@ -1,81 +1,82 @@
 // Reads columns: every check first, then the rows into the caller's buffer.
-ghost use Rattle.std.specs.Prelude.{◌≡◌, ◌<◌, ◌≤◌, map, length, take, drop, replicate, IfOk, None as Nothing, MatchResult, OnOk};
+ghost use Rattle.std.specs.Prelude.{◌≡◌, ◌<◌, map, length, drop, replicate, IfOk, MatchResult, OnOk};
 ghost use Rattle.ring.specs.Bytes.{over};
 ghost use Rattle.ring.specs.Checks.{verdict};
 ghost use Rattle.layout.specs.Layout.{shape};
 ghost use Rattle.layout.specs.Shape.{columns as columns_of, capacity as capacity_of};
 ghost use Rattle.ingest.specs.Charges.{outcome};
 ghost use Rattle.ingest.specs.Cuts.{ColumnsByRows, ColumnsByCuts, RowLaws};
-ghost use Rattle.ingest.specs.Found.{found};
-ghost use Rattle.ingest.specs.Order.{wrong_record};
 ghost use Rattle.ingest.specs.Reading.{one_checks, columns_checks, read_checks, assembled, RowsPlaced, ColumnsReport, HeightsCountRows};
-ghost use Rattle.ingest.specs.Table.{Sound, flat, leaves_of};
 
 use crate::account::IngestReport;
+use crate::block::{Block, Extent};
 use crate::fault::JaggedIngestError;
-use crate::leaf::check_leaves;
-use crate::leaves::Leaves;
+use crate::ordered::Ordered;
 use crate::record::Record;
-use crate::table::{check_order, height_of, pass_of};
-use crate::write::write_leaves;
 use layout::JaggedLayout;
 use ring::Ring;
 
-// Checks one column: its height, then its leaves.
-fn check_one(
-    table: &[Record],
-    cells: usize,
-    words: usize,
-    column: usize,
-    expected: usize,
-) -> Result<(), JaggedIngestError>
-    requires sound { Sound table.now }
-    requires within { column < length table.now }
-    ensures { result ≡ verdict (one_checks table.now cells words column expected) tt }
-{
-    let actual = match height_of(table, column) {
-        Some(rows) => rows,
-        None => return Err(JaggedIngestError::ColumnHeightOverflow { column }),
-    };
-    if actual != expected {
-        return Err(JaggedIngestError::ColumnHeightMismatch {
-            column,
-            expected,
-            actual,
-        });
+impl<'a> Ordered<'a> {
+    // Checks one column: its height, then its leaves.
+    fn check_column(
+        &self,
+        column: usize,
+        expected: usize,
+        extent: Extent,
+    ) -> Result<(), JaggedIngestError>
+        requires { column < length self.now.records.now }
+        ensures { result ≡ verdict (one_checks self.now.records.now extent.cells extent.words column expected) tt }
+    {
+        let actual = self.height_of(column, column)?;
+        if actual != expected {
+            return Err(JaggedIngestError::ColumnHeightMismatch {
+                column,
+                expected,
+                actual,
+            });
+        }
+        self.check_leaves(column, column, extent)?;
+        Ok(())
     }
-    check_leaves(table, column, column, cells, words)?;
-    Ok(())
-}
 
-// Checks each column in turn.
-fn check_each(
-    layout: &JaggedLayout,
-    table: &[Record],
-    cells: usize,
-    words: usize,
-) -> Result<(), JaggedIngestError>
-    requires sound { Sound table.now }
-    requires present { columns_of (shape layout.now) ≤ length table.now }
-    ensures { result ≡ verdict (columns_checks (shape layout.now) table.now cells words) tt }
-{
-    for column in 0..layout.num_columns() {
-        let expected = layout.column_height(column).unwrap();
-        check_one(table, cells, words, column, expected)?;
+    // Checks each column in turn.
+    fn check_columns(&self, layout: &JaggedLayout, extent: Extent) -> Result<(), JaggedIngestError>
+        requires { self.now.sources ≡ columns_of (shape layout.now) }
+        ensures { result ≡ verdict (columns_checks (shape layout.now) self.now.records.now extent.cells extent.words) tt }
+    {
+        for column in 0..self.sources {
+            // The layout tells a height by its column; its boundaries, taken two by two, would be no plainer.
+            let expected = layout.column_height(column).unwrap();
+            self.check_column(column, expected, extent)?;
+        }
+        Ok(())
     }
-    Ok(())
+
+    // Charges each column to its pass.
+    fn charge(&self, layout: &JaggedLayout) -> IngestReport
+        requires { self.now.sources ≡ columns_of (shape layout.now) }
+        ensures { ColumnsReport (shape layout.now) self.now.records.now result }
+    {
+        let mut report = IngestReport::padding(layout.dense_capacity() - layout.area());
+        for column in 0..self.sources {
+            // As above, the height is told by the column.
+            let rows = layout.column_height(column).unwrap();
+            report.charge(self.pass_of(column), rows);
+        }
+        report
+    }
 }
 
 // Runs every check of a reading.
-fn check_columns(
+fn check_reading<'a>(
     layout: &JaggedLayout,
-    table: &[Record],
+    table: &'a [Record],
     sources: usize,
-    cells: usize,
-    words: usize,
-    buffer: usize,
-) -> Result<(), JaggedIngestError>
-    ensures { result ≡ verdict (read_checks (shape layout.now) table.now sources cells words buffer) tt }
+    extent: Extent,
+    room: usize,
+) -> Result<Ordered<'a>, JaggedIngestError>
+    ensures answer { outcome result ≡ verdict (read_checks (shape layout.now) table.now sources extent.cells extent.words room) tt }
+    ensures same { IfOk result (λ o. (o.records.now ≡ table.now) × (o.sources ≡ sources)) }
 {
     let columns = layout.num_columns();
     if sources != columns {
@@ -84,42 +85,16 @@ fn check_columns(
             actual: sources,
         });
     }
-    check_order(table, sources)?;
-    check_each(layout, table, cells, words)?;
+    let ordered = Ordered::check(table, sources)?;
+    ordered.check_columns(layout, extent)?;
     let required = layout.dense_capacity();
-    if buffer < required {
+    if room < required {
         return Err(JaggedIngestError::BufferTooShort {
             required,
-            available: buffer,
+            available: room,
         });
     }
-    Ok(())
-}
-
-// Finds the leaves of all columns.
-pub(crate) fn find_all(table: &[Record], sources: usize) -> Leaves
-    requires { wrong_record table.now sources ≡ Nothing }
-    ensures { found result ≡ flat (take sources (leaves_of table.now)) }
-{
-    let mut leaves = Leaves::none();
-    for column in 0..sources {
-        leaves.find(table, column);
-    }
-    leaves
-}
-
-// Charges each column to its pass.
-fn charge_columns(layout: &JaggedLayout, table: &[Record]) -> IngestReport
-    requires sound { Sound table.now }
-    requires present { columns_of (shape layout.now) ≤ length table.now }
-    ensures { ColumnsReport (shape layout.now) table.now result }
-{
-    let mut report = IngestReport::padding(layout.dense_capacity() - layout.area());
-    for column in 0..layout.num_columns() {
-        let rows = layout.column_height(column).unwrap();
-        report.charge(pass_of(table, column), rows);
-    }
-    report
+    Ok(ordered)
 }
 
 // Sets cells to zero.
@@ -150,18 +125,9 @@ pub fn read_columns<R: Ring>(
     ensures report { IfOk result (ColumnsReport (shape layout.now) table.now) }
     ensures heights { HeightsCountRows R.Ring.ops (map R.Ring.value cells.now) words.now table.now }
 {
-    check_columns(
-        layout,
-        table,
-        sources,
-        cells.len(),
-        words.len(),
-        buffer.len(),
-    )?;
-    let leaves = find_all(table, sources);
-    write_leaves(&leaves, table, cells, words, buffer);
-    let area = layout.area();
-    let capacity = layout.dense_capacity();
-    clear(&mut buffer[area..capacity]);
-    Ok(charge_columns(layout, table))
+    let block = Block { cells, words };
+    let ordered = check_reading(layout, table, sources, block.extent(), buffer.len())?;
+    let area = ordered.write_run(0, sources, &block, buffer);
+    clear(&mut buffer[area..layout.dense_capacity()]);
+    Ok(ordered.charge(layout))
 }

@@ -34,7 +34,7 @@ pub enum Record {
 }
 
 // The work that rows owe before they lie in the dense vector, from free to most expensive.
-#[derive(Clone, Copy, Debug, PartialEq, Eq)]
+#[derive(Clone, Copy, Debug, PartialEq, Eq, PartialOrd, Ord)]
 pub enum ConversionPass {
     // The cells are the committed vector already, and nothing reads them.
     Shared,
@@ -51,21 +51,13 @@ impl ConversionPass {
     pub fn rank(self) -> u8
         ensures { result ≡ rank_of self }
     {
-        match self {
-            ConversionPass::Shared => 0,
-            ConversionPass::Copied => 1,
-            ConversionPass::Gathered => 2,
-            ConversionPass::Widened => 3,
-        }
+        self as u8
     }
+
     // The other pass where its rank is higher.
     pub fn higher(self, other: ConversionPass) -> ConversionPass
         ensures { result ≡ higher_of self other }
     {
-        if self.rank() < other.rank() {
-            other
-        } else {
-            self
-        }
+        self.max(other)
     }
 }

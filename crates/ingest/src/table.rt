@@ -1,15 +1,18 @@
 // Tables of records: their order, and the heights and passes of their columns.
-ghost use Rattle.std.specs.Prelude.{◌≡◌, ℕ, ◌^◌, ◌<◌, ◌≤◌, [], ◌∷◌, length, take, MatchResult, OnOk};
-ghost use Rattle.ring.specs.Checks.{verdict};
+ghost use Rattle.std.specs.Prelude.{◌≡◌, ℕ, ◌+◌, ◌^◌, ◌<◌, ◌≤◌, [], ◌∷◌, length, take, nat_le, IfOk, MatchResult, OnOk};
+ghost use Rattle.ring.specs.Checks.{verdict, when};
 ghost use Rattle.ring.specs.Bytes.{over};
+ghost use Rattle.ingest.specs.declared.fault.JaggedIngestError.TheVariants.{ColumnHeightOverflow};
 ghost use Rattle.ingest.specs.Asked.{height_checks, pass_checks, overflow_checks, heights_checks};
-ghost use Rattle.std.specs.Option.{SomeIff};
+ghost use Rattle.ingest.specs.Charges.{outcome};
 ghost use Rattle.ingest.specs.Order.{order_check, wrong_record, LowestWrong};
 ghost use Rattle.ingest.specs.Parts.{HeightsByParts, PassesByParts};
-ghost use Rattle.ingest.specs.Table.{Sound, leaf_height, leaf_pass, height_of, heights_of, pass_of};
+ghost use Rattle.ingest.specs.Table.{leaf_height, leaf_pass, height_of, heights_of, pass_of};
 
 use crate::fault::JaggedIngestError;
+use crate::ordered::Ordered;
 use crate::record::{ConversionPass, MAX_RECORDS, Record};
+use std::convert::Infallible;
 
 // Refuses a table whose runs do not follow one another, or that lacks a record or has one too many.
 pub fn check_order(table: &[Record], sources: usize) -> Result<(), JaggedIngestError>
@@ -17,6 +20,7 @@ pub fn check_order(table: &[Record], sources: usize) -> Result<(), JaggedIngestE
     ensures lowest { LowestWrong table.now sources (wrong_record table.now sources) }
 {
     // Where the next run begins; a sum of two indexes, so it can be past every index.
+    // An index is widened by `as`, since no `From` makes a `u128` of it.
     let mut next = sources as u128;
     for (record, entry) in table.iter().enumerate() {
         if record as u128 >= next || record >= MAX_RECORDS {
@@ -42,67 +46,93 @@ impl Record {
         ensures { result ≡ leaf_height self }
     {
         match self {
-            Record::Dense { height, .. } => height,
-            Record::Interleaved { height, .. } => height,
-            Record::Bits { height, .. } => height,
+            Record::Dense { height, .. }
+            | Record::Interleaved { height, .. }
+            | Record::Bits { height, .. } => height,
             Record::Chunked { .. } => 0,
         }
     }
 
     // The pass that a leaf's kind needs.
-    pub(crate) fn own_pass(self) -> ConversionPass
+    fn own_pass(self) -> ConversionPass
         ensures { result ≡ leaf_pass self }
     {
         match self {
-            Record::Dense { .. } => ConversionPass::Copied,
+            Record::Dense { .. } | Record::Chunked { .. } => ConversionPass::Copied,
             Record::Interleaved { .. } => ConversionPass::Gathered,
             Record::Bits { .. } => ConversionPass::Widened,
-            Record::Chunked { .. } => ConversionPass::Copied,
         }
+    }
+
+    // The rows so far and those of this leaf, unless their number is no machine index.
+    fn rows_after(self, rows: usize, column: usize) -> Result<usize, JaggedIngestError>
+        ensures { result ≡ verdict (when (nat_le (2 ^ 64) (rows + leaf_height self)) (ColumnHeightOverflow column) ∷ []) (rows + leaf_height self) }
+    {
+        rows.checked_add(self.own_height())
+            .ok_or(JaggedIngestError::ColumnHeightOverflow { column })
     }
 }
 
-// A record's height, or none if it is no machine index.
-pub(crate) fn height_of(table: &[Record], record: usize) -> Option<usize>
-    requires sound { Sound table.now }
-    requires within { «record» < length table.now }
-    ensures { SomeIff result (height_of table.now «record» < 2 ^ 64) (height_of table.now «record») }
-{
-    match table[record] {
-        Record::Chunked { from, count } => {
-            let mut total: usize = 0;
-            for part in from..from + count {
-                let rows = match table[part] {
-                    Record::Chunked { .. } => height_of(table, part)?,
-                    leaf => leaf.own_height(),
-                };
-                total = total.checked_add(rows)?;
-            }
-            Some(total)
-        }
-        leaf => Some(leaf.own_height()),
+impl<'a> Ordered<'a> {
+    // Checks the order of a table.
+    pub(crate) fn check(
+        records: &'a [Record],
+        sources: usize,
+    ) -> Result<Ordered<'a>, JaggedIngestError>
+        ensures answer { outcome result ≡ verdict (order_check records.now sources ∷ []) tt }
+        ensures same { IfOk result (λ o. (o.records.now ≡ records.now) × (o.sources ≡ sources)) }
+    {
+        check_order(records, sources)?;
+        Ok(Ordered { records, sources })
     }
-}
 
-// A record's pass.
-pub(crate) fn pass_of(table: &[Record], record: usize) -> ConversionPass
-    requires sound { Sound table.now }
-    requires within { «record» < length table.now }
-    ensures { result ≡ pass_of table.now «record» }
-{
-    match table[record] {
-        Record::Chunked { from, count } => {
-            let mut best = ConversionPass::Copied;
-            for part in from..from + count {
-                let pass = match table[part] {
-                    Record::Chunked { .. } => pass_of(table, part),
-                    leaf => leaf.own_pass(),
-                };
-                best = best.higher(pass);
-            }
-            best
+    // A record's height, for the column that it belongs to.
+    pub(crate) fn height_of(&self, record: usize, column: usize) -> Result<usize, JaggedIngestError>
+        requires { «record» < length self.now.records.now }
+        ensures { result ≡ verdict (when (nat_le (2 ^ 64) (height_of self.now.records.now «record»)) (ColumnHeightOverflow column) ∷ []) (height_of self.now.records.now «record») }
+    {
+        self.try_fold(
+            record,
+            1,
+            0,
+            &|rows: usize, _: usize, leaf: Record| { leaf.rows_after(rows, column) },
+        )
+    }
+
+    // A record's pass.
+    pub(crate) fn pass_of(&self, record: usize) -> ConversionPass
+        requires { «record» < length self.now.records.now }
+        ensures { result ≡ pass_of self.now.records.now «record» }
+    {
+        let highest: Result<ConversionPass, Infallible> = self.try_fold(
+            record,
+            1,
+            ConversionPass::Copied,
+            &|best: ConversionPass, _: usize, leaf: Record| Ok(best.higher(leaf.own_pass())),
+        );
+        let Ok(pass) = highest;
+        pass
+    }
+
+    // Refuses a column whose height is no machine index.
+    fn check_heights(&self) -> Result<(), JaggedIngestError>
+        ensures { result ≡ verdict (overflow_checks self.now.records.now self.now.sources) tt }
+    {
+        for column in 0..self.sources {
+            self.height_of(column, column)?;
         }
-        leaf => leaf.own_pass(),
+        Ok(())
+    }
+
+    // Writes the heights of all columns to the front of the slice.
+    fn put_heights(&self, out: &mut [usize])
+        requires fit { (y : ℕ) → y < self.now.sources → height_of self.now.records.now y < 2 ^ 64 }
+        requires room { self.now.sources ≤ length out.old }
+        ensures { out.new ≡ over (take self.now.sources (heights_of self.now.records.now)) out.old }
+    {
+        for (column, height) in out[..self.sources].iter_mut().enumerate() {
+            *height = self.height_of(column, column).unwrap();
+        }
     }
 }
 
@@ -117,11 +147,8 @@ pub fn height(table: &[Record], sources: usize, column: usize) -> Result<usize, 
             columns: sources,
         });
     }
-    check_order(table, sources)?;
-    match height_of(table, column) {
-        Some(rows) => Ok(rows),
-        None => Err(JaggedIngestError::ColumnHeightOverflow { column }),
-    }
+    let ordered = Ordered::check(table, sources)?;
+    ordered.height_of(column, column)
 }
 
 // The most expensive pass that a column needs.
@@ -139,35 +166,8 @@ pub fn pass(
             columns: sources,
         });
     }
-    check_order(table, sources)?;
-    Ok(pass_of(table, column))
-}
-
-// Refuses a column whose height is no machine index.
-fn check_heights(table: &[Record], sources: usize) -> Result<(), JaggedIngestError>
-    requires sound { Sound table.now }
-    requires present { sources ≤ length table.now }
-    ensures { result ≡ verdict (overflow_checks table.now sources) tt }
-{
-    for column in 0..sources {
-        match height_of(table, column) {
-            Some(_) => {}
-            None => return Err(JaggedIngestError::ColumnHeightOverflow { column }),
-        }
-    }
-    Ok(())
-}
-
-fn put_heights(table: &[Record], sources: usize, out: &mut [usize])
-    requires sound { Sound table.now }
-    requires present { sources ≤ length table.now }
-    requires fit { (y : ℕ) → y < sources → height_of table.now y < 2 ^ 64 }
-    requires room { sources ≤ length out.old }
-    ensures { out.new ≡ over (take sources (heights_of table.now)) out.old }
-{
-    for column in 0..sources {
-        out[column] = height_of(table, column).unwrap();
-    }
+    let ordered = Ordered::check(table, sources)?;
+    Ok(ordered.pass_of(column))
 }
 
 // Writes the heights of all columns to the front of the slice, and tells how many there are.
@@ -179,14 +179,14 @@ pub fn heights(
     ensures answer { result ≡ verdict (heights_checks table.now sources (length out.old)) sources }
     ensures written { MatchResult result (λ _. out.new ≡ over (take sources (heights_of table.now)) out.old) (λ _. out.new ≡ out.old) }
 {
-    check_order(table, sources)?;
-    check_heights(table, sources)?;
+    let ordered = Ordered::check(table, sources)?;
+    ordered.check_heights()?;
     if out.len() < sources {
         return Err(JaggedIngestError::BufferTooShort {
             required: sources,
             available: out.len(),
         });
     }
-    put_heights(table, sources, out);
+    ordered.put_heights(out);
     Ok(sources)
 }

@@ -1,5 +1,6 @@
 // A committed vector as it lies, and the views that are handed on as the witness.
-ghost use Rattle.std.specs.Prelude.{◌≡◌, length, take, IfOk};
+ghost use Rattle.std.specs.Prelude.{◌≡◌, length, take, is_some, nat_le, IfOk};
+ghost use Rattle.std.specs.Option.{IfSome};
 ghost use Rattle.ring.specs.Checks.{verdict};
 ghost use Rattle.layout.specs.Layout.{shape};
 ghost use Rattle.layout.specs.Shape.{capacity};
@@ -11,6 +12,19 @@ use crate::fault::JaggedIngestError;
 use layout::JaggedLayout;
 use ring::Ring;
 
+// The cells at the front that hold the dense vector, or none where there are too few.
+fn dense_part<'a, R: Ring>(layout: &JaggedLayout, cells: &'a [R]) -> Option<&'a [R]>
+    ensures enough { is_some result ≡ nat_le (capacity (shape layout.now)) (length cells.now) }
+    ensures view { IfSome result (λ w. (w.now ≡ take (capacity (shape layout.now)) cells.now) × (w.ref_ptr ≡ cells.entry.ref_ptr)) }
+{
+    let required = layout.dense_capacity();
+    if cells.len() < required {
+        return None;
+    }
+    // A slice's own `get` says nothing of where the cells lie, which the views promise.
+    Some(&cells[..required])
+}
+
 // Reads a dense vector that its producer holds already: no cell is read or written.
 pub fn read_committed<R: Ring>(
     layout: &JaggedLayout,
@@ -19,13 +33,7 @@ pub fn read_committed<R: Ring>(
     ensures answer { outcome result ≡ verdict (vector_checks (shape layout.now) (length cells.now)) tt }
     ensures report { IfOk result (CommittedReport (shape layout.now)) }
 {
-    let required = layout.dense_capacity();
-    if cells.len() < required {
-        return Err(JaggedIngestError::CommittedVectorTooShort {
-            required,
-            available: cells.len(),
-        });
-    }
+    witness_of_vector(layout, cells)?;
     Ok(IngestReport {
         shared: layout.area(),
         copied: 0,
@@ -43,14 +51,10 @@ pub fn witness_of_vector<'a, R: Ring>(
     ensures answer { outcome result ≡ verdict (vector_checks (shape layout.now) (length cells.now)) tt }
     ensures view { IfOk result (λ w. (w.now ≡ take (capacity (shape layout.now)) cells.now) × (w.ref_ptr ≡ cells.entry.ref_ptr)) }
 {
-    let required = layout.dense_capacity();
-    if cells.len() < required {
-        return Err(JaggedIngestError::CommittedVectorTooShort {
-            required,
-            available: cells.len(),
-        });
-    }
-    Ok(&cells[0..required])
+    dense_part(layout, cells).ok_or(JaggedIngestError::CommittedVectorTooShort {
+        required: layout.dense_capacity(),
+        available: cells.len(),
+    })
 }
 
 // The witness in a buffer that columns were read into: the buffer's own cells.
@@ -61,12 +65,8 @@ pub fn witness_of_buffer<'a, R: Ring>(
     ensures answer { outcome result ≡ verdict (buffer_checks (shape layout.now) (length buffer.now)) tt }
     ensures view { IfOk result (λ w. (w.now ≡ take (capacity (shape layout.now)) buffer.now) × (w.ref_ptr ≡ buffer.entry.ref_ptr)) }
 {
-    let required = layout.dense_capacity();
-    if buffer.len() < required {
-        return Err(JaggedIngestError::BufferTooShort {
-            required,
-            available: buffer.len(),
-        });
-    }
-    Ok(&buffer[0..required])
+    dense_part(layout, buffer).ok_or(JaggedIngestError::BufferTooShort {
+        required: layout.dense_capacity(),
+        available: buffer.len(),
+    })
 }

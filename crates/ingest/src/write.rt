@@ -1,24 +1,26 @@
 // Writes the rows of leaves into the dense vector.
-ghost use Rattle.std.specs.Prelude.{◌≡◌, ℕ, ◌+◌, ◌-◌, ◌*◌, ◌<◌, ◌≤◌, map, length, drop, if◌then◌else◌, slice_index, slice_index_or};
+ghost use Rattle.std.specs.Prelude.{◌≡◌, ℕ, ◌+◌, ◌-◌, ◌*◌, ◌<◌, ◌≤◌, map, length, drop, if◌then◌else◌, slice_index_or};
+ghost use Rattle.std.specs.List.{All};
 ghost use Rattle.ring.specs.Bytes.{over};
-ghost use Rattle.ingest.specs.Found.{found};
 ghost use Rattle.ingest.specs.Leaves.{words_for};
-ghost use Rattle.ingest.specs.Order.{record_at};
-ghost use Rattle.ingest.specs.Rows.{bit_at, leaf_rows, found_rows, Within};
-ghost use Rattle.ingest.specs.Table.{leaf_height};
+ghost use Rattle.ingest.specs.Rows.{bit_at, leaf_rows, rows_of, Sits, Within};
+ghost use Rattle.ingest.specs.Table.{leaf_height, leaves_of};
+ghost use Rattle.ingest.specs.Walks.{run_of};
 
+use crate::block::Block;
 use crate::leaf::WORD_BITS;
-use crate::leaves::Leaves;
+use crate::ordered::Ordered;
 use crate::record::Record;
 use ring::Ring;
 
 // Row r is the cell at first + r × stride, counted from the place.
+#[tactic(auto, using(crate::proofs::Written::row_le))]
 fn write_strided<R: Ring>(cells: &[R], place: usize, first: usize, stride: usize, out: &mut [R])
     requires { 0 < length out.old → place + (first + (length out.old - 1) * stride) < length cells.now }
     ensures { (k : ℕ) → k < length out.old → slice_index_or (map R.Ring.value out.new) k R.Ring.ops.nought ≡ slice_index_or (map R.Ring.value cells.now) (place + (first + k * stride)) R.Ring.ops.nought }
 {
-    for row in 0..out.len() {
-        out[row] = cells[place + (first + row * stride)];
+    for (row, cell) in out.iter_mut().enumerate() {
+        *cell = cells[place + (first + row * stride)];
     }
 }
 
@@ -27,49 +29,65 @@ fn write_bits<R: Ring>(words: &[u64], place: usize, out: &mut [R])
     requires { place + words_for (length out.old) ≤ length words.now }
     ensures { (k : ℕ) → k < length out.old → slice_index_or (map R.Ring.value out.new) k R.Ring.ops.nought ≡ (if bit_at words.now place k then R.Ring.ops.one else R.Ring.ops.nought) }
 {
-    for row in 0..out.len() {
+    for (row, cell) in out.iter_mut().enumerate() {
         let bit = (words[place + row / WORD_BITS] >> (row % WORD_BITS)) & 1;
-        out[row] = R::from_bool(bit == 1);
+        *cell = R::from_bool(bit == 1);
     }
 }
 
-// Writes the rows of a leaf.
-fn write_leaf<R: Ring>(entry: Record, cells: &[R], words: &[u64], out: &mut [R])
-    requires within { Within (length cells.now) (length words.now) entry }
-    requires long { length out.old ≡ leaf_height entry }
-    ensures { map R.Ring.value out.new ≡ leaf_rows R.Ring.ops (map R.Ring.value cells.now) words.now entry }
-{
-    match entry {
-        Record::Dense { place, height } => out.copy_from_slice(&cells[place..place + height]),
-        Record::Interleaved {
-            place,
-            first,
-            stride,
-            ..
-        } => write_strided(cells, place, first, stride, out),
-        Record::Bits { place, .. } => write_bits(words, place, out),
-        Record::Chunked { .. } => {}
+impl<'a, R: Ring> Block<'a, R> {
+    // Writes the rows of a leaf.
+    fn write_leaf(&self, entry: Record, out: &mut [R])
+        requires within { Within (length self.now.cells.now) (length self.now.words.now) entry }
+        requires long { length out.old ≡ leaf_height entry }
+        ensures { map R.Ring.value out.new ≡ leaf_rows R.Ring.ops (map R.Ring.value self.now.cells.now) self.now.words.now entry }
+    {
+        match entry {
+            Record::Dense { place, height } => {
+                out.copy_from_slice(&self.cells[place..place + height])
+            }
+            Record::Interleaved {
+                place,
+                first,
+                stride,
+                ..
+            } => write_strided(self.cells, place, first, stride, out),
+            Record::Bits { place, .. } => write_bits(self.words, place, out),
+            Record::Chunked { .. } => {}
+        }
     }
 }
 
-// Writes the rows of the leaves to the front of the buffer, one leaf after the other.
-pub(crate) fn write_leaves<R: Ring>(
-    leaves: &Leaves,
-    table: &[Record],
-    cells: &[R],
-    words: &[u64],
-    buffer: &mut [R],
-)
-    requires within { (k : ℕ) → k < length (found leaves.now) → (slice_index (found leaves.now) k < length table.now) × Within (length cells.now) (length words.now) (record_at table.now (slice_index (found leaves.now) k)) }
-    requires room { length (found_rows R.Ring.ops (map R.Ring.value cells.now) words.now table.now (found leaves.now)) ≤ length buffer.old }
-    ensures written { map R.Ring.value buffer.new ≡ over (found_rows R.Ring.ops (map R.Ring.value cells.now) words.now table.now (found leaves.now)) (map R.Ring.value buffer.old) }
-    ensures kept { (n : ℕ) → length (found_rows R.Ring.ops (map R.Ring.value cells.now) words.now table.now (found leaves.now)) ≤ n → drop n buffer.new ≡ drop n buffer.old }
-{
-    let mut at: usize = 0;
-    for k in 0..leaves.count {
-        let entry = table[leaves.numbers[k]];
-        let rows = entry.own_height();
-        write_leaf(entry, cells, words, &mut buffer[at..at + rows]);
-        at += rows;
+impl<'a> Ordered<'a> {
+    // Writes the rows of a run of records to the front of the buffer, and tells how many.
+    // The walk is written out: a step of `try_fold` changes only what it hands on, and one that holds the buffer would be no plainer.
+    pub(crate) fn write_run<R: Ring>(
+        &self,
+        from: usize,
+        count: usize,
+        block: &Block<R>,
+        out: &mut [R],
+    ) -> usize
+        requires within { from + count ≤ length self.now.records.now }
+        requires sits { All (Sits (length block.now.cells.now) (length block.now.words.now) self.now.records.now) (run_of (leaves_of self.now.records.now) from count) }
+        requires room { length (run_of (rows_of R.Ring.ops (map R.Ring.value block.now.cells.now) block.now.words.now self.now.records.now) from count) ≤ length out.old }
+        ensures told { result ≡ length (run_of (rows_of R.Ring.ops (map R.Ring.value block.now.cells.now) block.now.words.now self.now.records.now) from count) }
+        ensures written { map R.Ring.value out.new ≡ over (run_of (rows_of R.Ring.ops (map R.Ring.value block.now.cells.now) block.now.words.now self.now.records.now) from count) (map R.Ring.value out.old) }
+        ensures kept { (n : ℕ) → result ≤ n → drop n out.new ≡ drop n out.old }
+    {
+        let mut at = 0;
+        for &entry in &self.records[from..from + count] {
+            at += match entry {
+                Record::Chunked { from, count } => {
+                    self.write_run(from, count, block, &mut out[at..])
+                }
+                leaf => {
+                    let rows = leaf.own_height();
+                    block.write_leaf(leaf, &mut out[at..at + rows]);
+                    rows
+                }
+            };
+        }
+        at
     }
 }

@@ -1,48 +1,57 @@
 -- What calls on cells are answered. Assumes nothing.
-use Rattle.std.proofs.Common.{◌≡◌, ℕ, ◌%◌, Bool, List, ◌++◌, length, Some, None, Ok, Err, codes, MatchBool, Option, Result, sym, ap, ◌∙◌, subst, MatchOption}
-use Rattle.std.proofs.lemmas.Option.{MatchOption-at_some}
-use Rattle.std.proofs.lemmas.Bool.{eq-eqb, ne_eqb}
+use Rattle.std.proofs.Common.{◌≡◌, ℕ, ◌%◌, List, ◌++◌, length, Some, Ok, Err, codes, Option, Result, ap, ◌∙◌, subst, refl}
+use Rattle.std.proofs.lemmas.Bool.{eq-eqb}
+use Rattle.std.specs.declared.cmp.PartialEq.{Ghosts as PartialEqGhosts}
+use Rattle.ring.specs.declared.coefficient.Coefficient.{Ghosts as CoefficientGhosts}
+use Rattle.ring.specs.declared.kind.Ring.{Ghosts as RingGhosts}
 use Rattle.ingest.specs.declared.fault.JaggedIngestError.{JaggedIngestError}
 use Rattle.ingest.specs.declared.record.ConversionPass.{ConversionPass}
 use Rattle.script.specs.Cells.{Numbered}
 use Rattle.script.specs.Kits.{Kit}
 use Rattle.script.specs.Replies.{answered}
+use Rattle.script.specs.declared.element.Element.{Ghosts as ElementGhosts}
 use Rattle.script.proofs.Numbering.{wholly}
-use Rattle.script_sources.specs.Replies.{cells_field, Buffered, Given}
+use Rattle.script_sources.specs.Replies.{cells_field, Buffered, Given, Telling}
 use Rattle.script_sources.specs.Texts.{ingest_fault, report_fields}
 
 -- the same charges have the same text
 pub report_same : {f g : ConversionPass → ℕ} {d e : ℕ} → ((p : ConversionPass) → f p ≡ g p) → d ≡ e → report_fields f d ≡ report_fields g e
 report_same each padding = λ t. report_fields (λ p. each p t) (padding t)
 
+-- the kit of a ring kind
+abbrev pub kit : {E : Type 0} → RingGhosts E → CoefficientGhosts E → ElementGhosts E → PartialEqGhosts E → Kit E
+kit R C L Q = record { ops = R.ops; value = R.value; width = C.width; spelling = C.spelling; parts = L.parts; numbered = L.numbered; text = L.text; equals = λ x y r. r ≡ Q.eq x y }
+
 -- an accepted call, and a refused one
 module _ {T F : Type 0} (accepted : T → List ℕ) (refused : F → List ℕ) (r : Result T F) where
   pub accepted_told : (x : T) (text : List ℕ) → Ok x ≡ r → text ≡ codes "ok" ++ accepted x → text ≡ answered accepted refused r
   accepted_told x text ok e = e ∙ ap (answered accepted refused) ok
 
-  pub refused_told : (f : F) (text : List ℕ) → Err f ≡ r → text ≡ refused f → text ≡ answered accepted refused r
-  refused_told f text err e = e ∙ ap (answered accepted refused) err
+  pub refused_told : (f : F) → Err f ≡ r → refused f ≡ answered accepted refused r
+  refused_told f err = ap (answered accepted refused) err
 
 module _ {E : Type 0} (K : Kit E) where
-  -- a call that writes to a buffer
-  module _ {T : Type 0} (r : Result T JaggedIngestError) (fields : T → List ℕ) (Holds : List E → Type 0) (text : List ℕ) where
-    pub buffered_ok : (x : T) → Ok x ≡ r → (out : List E) → Holds out → text ≡ codes "ok" ++ (fields x ++ cells_field K out) → Buffered K r fields Holds text
-    buffered_ok x ok out h e = subst (λ (v : Result T JaggedIngestError). Buffered K v fields Holds text) ok (out, h, e)
-
-    pub buffered_err : (f : JaggedIngestError) → Err f ≡ r → text ≡ ingest_fault f → Buffered K r fields Holds text
-    buffered_err f err e = subst (λ (v : Result T JaggedIngestError). Buffered K v fields Holds text) err e
-
   -- cells by their numbers
-  module _ (told : Option (List ℕ)) (ns : List ℕ) (P : List E → Type 0) where
-    abbrev At : Bool → Type 0
-    At b = MatchBool b ((xs : List E) × Numbered K.parts K.numbered ns xs × P xs) (told ≡ None)
+  module _ (ns : List ℕ) (xs ys : List E) (n : Numbered K.parts K.numbered ns xs) (same : ys ≡ xs) where
+    pub given : (told : Option (List ℕ)) (P : List E → Type 0) → P ys → Given K told ns P
+    given told P p =
+        let all = eq-eqb (length ns % K.parts) 0 (wholly K.parts (length xs) (length ns) n.count) in
+        rw all (xs, n, subst P same p)
 
-    pub given_yes : (xs : List E) → Numbered K.parts K.numbered ns xs → P xs → Given K told ns P
-    given_yes xs n p = subst At (sym (eq-eqb (length ns % K.parts) 0 (wholly K.parts (length xs) (length ns) n.count))) (xs, n, p)
+    pub given_text : (text : List ℕ) (reply : List E → List ℕ) → text ≡ reply ys → Given K (Some text) ns (λ zs. Some text ≡ Some (reply zs))
+    given_text text reply e = given (Some text) (λ zs. Some text ≡ Some (reply zs)) (ap Some e)
 
-    pub given_no : (length ns % K.parts ≡ 0 → ⊥) → told ≡ None → Given K told ns P
-    given_no amid e = subst At (sym (ne_eqb (length ns % K.parts) 0 amid)) e
+  -- the same for a call with a buffer, and with words that are equal to those of the line
+  pub given_both : (ns ms : List ℕ) (xs ys bs cs : List E) (ws vs : List ℕ) → Numbered K.parts K.numbered ns xs → ys ≡ xs → Numbered K.parts K.numbered ms bs → cs ≡ bs → vs ≡ ws → (text : List ℕ) (Replied : List E → List ℕ → List E → List ℕ → Type 0) → Replied ys vs cs text → Given K (Some text) ns (λ zs. Given K (Some text) ms (λ rs. Telling K (Some text) (Replied zs ws rs)))
+  given_both ns ms xs ys bs cs ws vs n same m alike words text Replied h =
+      let told = Some text in
+      given ns xs ys n same told (λ zs. Given K told ms (λ rs. Telling K told (Replied zs ws rs)))
+      (given ms bs cs m alike told (λ rs. Telling K told (Replied ys ws rs)) (text, refl, subst (λ (l : List ℕ). Replied ys l cs text) words h))
 
-    -- what `elements` gave
-    pub given_some : {V : Type 0} (items : V → List E) (o : Option V) (v : V) → o ≡ Some v → MatchOption o (length ns % K.parts ≡ 0 → ⊥) (λ w. Numbered K.parts K.numbered ns (items w)) → P (items v) → Given K told ns P
-    given_some items o v is made p = given_yes (items v) (MatchOption-at_some (length ns % K.parts ≡ 0 → ⊥) (λ w. Numbered K.parts K.numbered ns (items w)) v is made) p
+  -- a call that writes to a buffer
+  module _ {T : Type 0} (r : Result T JaggedIngestError) (fields : T → List ℕ) (Holds : List E → Type 0) where
+    pub buffered : (text : List ℕ) (x : T) → Ok x ≡ r → (out : List E) → Holds out → text ≡ codes "ok" ++ (fields x ++ cells_field K out) → Buffered K r fields Holds text
+    buffered text x ok out h e = subst (λ (v : Result T JaggedIngestError). Buffered K v fields Holds text) ok (out, h, e)
+
+    pub buffered_fault : (f : JaggedIngestError) → Err f ≡ r → Buffered K r fields Holds (ingest_fault f)
+    buffered_fault f err = subst (λ (v : Result T JaggedIngestError). Buffered K v fields Holds (ingest_fault f)) err refl

@@ -1,5 +1,5 @@
 -- What a line is answered: the text that is told, or none where the line is no call. Assumes nothing.
-use Rattle.std.specs.Prelude.{◌≡◌, ℕ, ◌-◌, ◌%◌, List, [], ◌∷◌, ◌++◌, map, length, take, drop, Some, None, codes, decimal, MatchBool, sum, Option, Result, MatchResult, ◌==◌}
+use Rattle.std.specs.Prelude.{◌≡◌, ℕ, ◌-◌, ◌%◌, List, [], ◌∷◌, ◌++◌, map, length, take, drop, Some, None, codes, decimal, MatchBool, sum, Option, Ok, Err, Result, MatchResult, ⊤, ◌==◌}
 use Rattle.std.specs.List.{range_with_len}
 use Rattle.ring.specs.Bytes.{over}
 use Rattle.ring.specs.Checks.{verdict}
@@ -21,6 +21,9 @@ use Rattle.script.specs.Cells.{Numbered}
 use Rattle.script.specs.Kits.{Kit, residue_kit, word_kit, pair_kit}
 use Rattle.script.specs.Records.{field, commas, separated}
 use Rattle.script.specs.Replies.{answered}
+use Rattle.words.specs.declared.unsaid.Unsaid.TheVariants.{Nothing, NoMemory}
+use Rattle.script_sources.specs.declared.refusal.Refusal.{Refusal}
+use Rattle.script_sources.specs.declared.refusal.Refusal.TheVariants.{Unsaid, Fault}
 use Rattle.script_sources.specs.Calls.{CellsSaid, read_columns, read_committed, witness_of_vector, witness_of_buffer, write_piece, Said, check_order, height, pass, heights, piece_height, at_kind}
 use Rattle.script_sources.specs.Texts.{ingest_fault, pass_name, report_fields}
 
@@ -124,3 +127,10 @@ Reply slots (at_kind kind c) told = KindReply kind slots c told
 abbrev pub Answered : (List ℕ → Shape) → Option Said → Option (List ℕ) → Type 0
 Answered slots None told = told ≡ None
 Answered slots (Some call) told = Reply slots call told
+
+-- what holds of that which is told: an accepted call's text, a refused call's fault, or none; without memory nothing is promised
+abbrev pub Tells : {T : Type 0} → (T → List ℕ) → (Option (List ℕ) → Type 0) → Result T Refusal → Type 0
+Tells view Holds (Ok text) = Holds (Some (view text))
+Tells view Holds (Err (Fault f)) = Holds (Some (ingest_fault f))
+Tells view Holds (Err (Unsaid Nothing)) = Holds None
+Tells view Holds (Err (Unsaid (NoMemory e))) = ⊤

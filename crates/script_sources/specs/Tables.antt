@@ -1,12 +1,11 @@
 -- The records and tables that words say. Assumes nothing.
-use Rattle.std.specs.Prelude.{ℕ, ◌+◌, ◌^◌, cond, List, [], ◌∷◌, ◌++◌, length, take, drop, replicate, Some, None, codes, Option, ◌==◌, nat_le, nat_lt}
-use Rattle.std.specs.Str.{bytes_eq}
+use Rattle.std.specs.Prelude.{ℕ, ◌^◌, cond, List, length, drop, Some, None, codes, Option, ◌==◌}
 use Rattle.ingest.specs.declared.record.Record.{Record}
 use Rattle.ingest.specs.declared.record.Record.TheVariants.{Dense, Interleaved, Bits, Chunked}
-use Rattle.words.specs.declared.split.Mark.TheVariants.{Star, Semicolon, Colon}
+use Rattle.words.specs.declared.split.Mark.TheVariants.{Semicolon, Colon}
 use Rattle.words.specs.Arguments.{and, with, at, named}
-use Rattle.words.specs.Cuts.{ahead, pieces}
-use Rattle.words.specs.Words.{number_of, provided}
+use Rattle.words.specs.Cuts.{pieces}
+use Rattle.words.specs.Words.{number_of, run_by, list_by}
 
 -- the most records that a table of a script has
 abbrev pub max_table : ℕ
@@ -42,34 +41,10 @@ headed says words = cond (length words == 0) None (says (at words 0) (drop 1 wor
 unfoldable pub record_of : List ℕ → Option Record
 record_of w = headed fields_say (pieces Colon w)
 
--- a record and how often it comes, as a list
-abbrev pub repeated : Record × ℕ → List Record
-repeated run = replicate run.1 run.0
-
-abbrev pub times : Option Record → Option ℕ → Option (List Record)
-times None k = None
-times (Some r) None = None
-times (Some r) (Some k) = Some (replicate k r)
-
 -- what an item of a table says: `r` is r once, `r*k` is r k times
-unfoldable pub run_of : List ℕ → Option (List Record)
-run_of w = cond (nat_lt (ahead Star w) (length w)) (times (record_of (take (ahead Star w) w)) (number_of (drop (ahead Star w + 1) w))) (times (record_of w) (Some 1))
-
--- some records after others, where both are told
-abbrev pub after : Option (List Record) → Option (List Record) → Option (List Record)
-after None ys = None
-after (Some xs) None = None
-after (Some xs) (Some ys) = Some (xs ++ ys)
-
-abbrev pub runs_of : List (List ℕ) → Option (List Record)
-runs_of [] = Some []
-runs_of (w ∷ ws) = after (run_of w) (runs_of ws)
-
--- a table that is not too long
-abbrev pub short : Option (List Record) → Option (List Record)
-short None = None
-short (Some xs) = provided (nat_le (length xs) max_table) xs
+abbrev pub run_of : List ℕ → Option (List Record)
+run_of w = run_by record_of w
 
 -- the table that a word says: items with semicolons between them, or a dash
-unfoldable pub table_of : List ℕ → Option (List Record)
-table_of w = cond (bytes_eq w (codes "-")) (Some []) (short (runs_of (pieces Semicolon w)))
+abbrev pub table_of : List ℕ → Option (List Record)
+table_of w = list_by run_of Semicolon max_table w

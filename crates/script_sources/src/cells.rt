@@ -1,13 +1,14 @@
 // The calls at a ring kind, and what they tell.
-ghost use Rattle.std.specs.Prelude.{◌≡◌, length, IfOk, Some, string_bytes};
-ghost use Rattle.std.specs.Option.{option_map};
+ghost use Rattle.std.specs.Prelude.{◌≡◌, length, Some, IfOk, string_bytes, codes, ◌++◌};
 ghost use Rattle.layout.specs.Layout.{shape};
+ghost use Rattle.script.specs.Kits.{kit_of};
 ghost use Rattle.script.specs.Slots.{slot};
 ghost use Rattle.script_sources.specs.Calls.{cells_said};
-ghost use Rattle.script_sources.specs.Replies.{committed_reply, vector_reply, buffer_reply, ReadReply, PieceReply, Given, Telling, CellsReply, KindReply};
+ghost use Rattle.script_sources.specs.Replies.{committed_reply, vector_reply, buffer_reply, cells_field, ReadReply, PieceReply, Given, Telling, CellsReply, KindReply, Tells};
 
 use crate::call::CellsCall;
-use crate::text::{fault_text, report_text};
+use crate::refusal::Refusal;
+use crate::text::report_text;
 use ingest::{
     Record, read_columns, read_committed, witness_of_buffer, witness_of_vector, write_piece,
 };
@@ -17,30 +18,30 @@ use script::{Element, Kind, Session, cells_text, elements};
 use std::alloc::{AllocError, Global};
 
 // Makes a call at its ring kind.
-pub(crate) fn kind_answer(
+pub(crate) fn kind_told(
     session: &Session,
     heap: Global,
     kind: Kind,
     call: CellsCall,
-) -> Result<Option<String>, AllocError>
-    ensures { IfOk result (λ o. KindReply kind (slot session.now) (cells_said call) (option_map string_bytes o)) }
+) -> Result<String, Refusal>
+    ensures { Tells string_bytes (KindReply kind (slot session.now) (cells_said call)) result }
 {
     match kind {
-        Kind::Residue => cells_answer::<Residue>(session, heap, call),
-        Kind::Word => cells_answer::<Word>(session, heap, call),
-        Kind::PairResidue => cells_answer::<Pair<Residue>>(session, heap, call),
-        Kind::PairWord => cells_answer::<Pair<Word>>(session, heap, call),
-        Kind::PairPairResidue => cells_answer::<Pair<Pair<Residue>>>(session, heap, call),
-        Kind::PairPairWord => cells_answer::<Pair<Pair<Word>>>(session, heap, call),
+        Kind::Residue => cells_told::<Residue>(session, heap, call),
+        Kind::Word => cells_told::<Word>(session, heap, call),
+        Kind::PairResidue => cells_told::<Pair<Residue>>(session, heap, call),
+        Kind::PairWord => cells_told::<Pair<Word>>(session, heap, call),
+        Kind::PairPairResidue => cells_told::<Pair<Pair<Residue>>>(session, heap, call),
+        Kind::PairPairWord => cells_told::<Pair<Pair<Word>>>(session, heap, call),
     }
 }
 
-fn cells_answer<R: Element + PartialEq>(
+fn cells_told<R: Element + PartialEq>(
     session: &Session,
     heap: Global,
     call: CellsCall,
-) -> Result<Option<String>, AllocError>
-    ensures { IfOk result (λ o. CellsReply (kit_of R.Element R.PartialEq) (option_map string_bytes o) (slot session.now) (cells_said call)) }
+) -> Result<String, Refusal>
+    ensures { Tells string_bytes (λ told. CellsReply (kit_of R.Element R.PartialEq) told (slot session.now) (cells_said call)) result }
 {
     match call {
         CellsCall::ReadColumns {
@@ -51,17 +52,17 @@ fn cells_answer<R: Element + PartialEq>(
             words,
             buffer,
         } => {
-            let layout = session.held(name.as_str());
-            columns_answer::<R>(heap, &layout, &table, sources, &cells, &words, &buffer)
+            let layout = session.held(&name);
+            columns_told::<R>(heap, &layout, &table, sources, &cells, &words, &buffer)
         }
         CellsCall::ReadCommitted { name, cells } => {
-            committed_answer::<R>(heap, &session.held(name.as_str()), &cells)
+            committed_told::<R>(heap, &session.held(&name), &cells)
         }
         CellsCall::WitnessOfVector { name, cells } => {
-            vector_answer::<R>(heap, &session.held(name.as_str()), &cells)
+            vector_told::<R>(heap, &session.held(&name), &cells)
         }
         CellsCall::WitnessOfBuffer { name, cells } => {
-            buffer_answer::<R>(heap, &session.held(name.as_str()), &cells)
+            buffer_told::<R>(heap, &session.held(&name), &cells)
         }
         CellsCall::WritePiece {
             table,
@@ -69,7 +70,7 @@ fn cells_answer<R: Element + PartialEq>(
             cells,
             words,
             buffer,
-        } => piece_answer::<R>(heap, &table, column, &cells, &words, &buffer),
+        } => piece_told::<R>(heap, &table, column, &cells, &words, &buffer),
     }
 }
 
@@ -77,14 +78,10 @@ fn cells_answer<R: Element + PartialEq>(
 fn block_words(heap: Global, numbers: &[usize]) -> Result<Vec<u64>, AllocError>
     ensures { IfOk result (λ v. v.items ≡ numbers.now) }
 {
-    let mut words = Vec::new(heap);
-    for number in numbers {
-        words.push(*number as u64)?;
-    }
-    Ok(words)
+    numbers.iter().map(|number| *number as u64).collect(heap)
 }
 
-fn columns_answer<R: Element + PartialEq>(
+fn columns_told<R: Element + PartialEq>(
     heap: Global,
     layout: &JaggedLayout,
     table: &[Record],
@@ -92,167 +89,77 @@ fn columns_answer<R: Element + PartialEq>(
     cells: &[usize],
     words: &[usize],
     buffer: &[usize],
-) -> Result<Option<String>, AllocError>
-    ensures { IfOk result (λ o. Given (kit_of R.Element R.PartialEq) (option_map string_bytes o) cells.now (λ xs. Given (kit_of R.Element R.PartialEq) (option_map string_bytes o) buffer.now (λ bs. Telling (kit_of R.Element R.PartialEq) (option_map string_bytes o) (ReadReply (kit_of R.Element R.PartialEq) (shape layout.now) table.now sources xs words.now bs)))) }
+) -> Result<String, Refusal>
+    ensures { Tells string_bytes (λ told. Given (kit_of R.Element R.PartialEq) told cells.now (λ xs. Given (kit_of R.Element R.PartialEq) told buffer.now (λ bs. Telling (kit_of R.Element R.PartialEq) told (ReadReply (kit_of R.Element R.PartialEq) (shape layout.now) table.now sources xs words.now bs)))) result }
 {
-    let Some(block) = elements::<R>(heap, cells)? else {
-        return Ok(None);
-    };
-    let Some(mut room) = elements::<R>(heap, buffer)? else {
-        return Ok(None);
-    };
+    let block = elements::<R>(heap, cells)?;
+    let mut room = elements::<R>(heap, buffer)?;
     let bits = block_words(heap, words)?;
-    let text = columns_text(heap, layout, table, sources, &block, &bits, &mut room)?;
-    Ok(Some(text))
+    let report = read_columns(layout, table, sources, &block, &bits, &mut room)?;
+    let fields = report_text(heap, &report)?;
+    let all = cells_text(heap, &room)?;
+    Ok(format!(in heap; "ok{fields} cells={all}")?)
 }
 
-fn columns_text<R: Element + PartialEq>(
-    heap: Global,
-    layout: &JaggedLayout,
-    table: &[Record],
-    sources: usize,
-    cells: &[R],
-    words: &[u64],
-    buffer: &mut [R],
-) -> Result<String, AllocError>
-    ensures { IfOk result (λ s. ReadReply (kit_of R.Element R.PartialEq) (shape layout.now) table.now sources cells.now words.now buffer.old (string_bytes s)) }
-{
-    match read_columns(layout, table, sources, cells, words, buffer) {
-        Ok(report) => {
-            let fields = report_text(heap, &report)?;
-            let all = cells_text(heap, buffer)?;
-            format!(in heap; "ok{fields} cells={all}")
-        }
-        Err(fault) => fault_text(heap, &fault),
-    }
-}
-
-fn committed_answer<R: Element + PartialEq>(
+fn committed_told<R: Element + PartialEq>(
     heap: Global,
     layout: &JaggedLayout,
     cells: &[usize],
-) -> Result<Option<String>, AllocError>
-    ensures { IfOk result (λ o. Given (kit_of R.Element R.PartialEq) (option_map string_bytes o) cells.now (λ xs. option_map string_bytes o ≡ Some (committed_reply (shape layout.now) (length xs)))) }
+) -> Result<String, Refusal>
+    ensures { Tells string_bytes (λ told. Given (kit_of R.Element R.PartialEq) told cells.now (λ xs. told ≡ Some (committed_reply (shape layout.now) (length xs)))) result }
 {
-    let Some(block) = elements::<R>(heap, cells)? else {
-        return Ok(None);
-    };
-    let text = committed_text(heap, layout, &block)?;
-    Ok(Some(text))
+    let block = elements::<R>(heap, cells)?;
+    let report = read_committed(layout, &block)?;
+    let fields = report_text(heap, &report)?;
+    Ok(format!(in heap; "ok{fields}")?)
 }
 
-fn committed_text<R: Element>(
-    heap: Global,
-    layout: &JaggedLayout,
-    cells: &[R],
-) -> Result<String, AllocError>
-    ensures { IfOk result (λ s. string_bytes s ≡ committed_reply (shape layout.now) (length cells.now)) }
-{
-    match read_committed(layout, cells) {
-        Ok(report) => {
-            let fields = report_text(heap, &report)?;
-            format!(in heap; "ok{fields}")
-        }
-        Err(fault) => fault_text(heap, &fault),
-    }
-}
-
-fn vector_answer<R: Element + PartialEq>(
+fn vector_told<R: Element + PartialEq>(
     heap: Global,
     layout: &JaggedLayout,
     cells: &[usize],
-) -> Result<Option<String>, AllocError>
-    ensures { IfOk result (λ o. Given (kit_of R.Element R.PartialEq) (option_map string_bytes o) cells.now (λ xs. option_map string_bytes o ≡ Some (vector_reply (kit_of R.Element R.PartialEq) (shape layout.now) xs))) }
+) -> Result<String, Refusal>
+    ensures { Tells string_bytes (λ told. Given (kit_of R.Element R.PartialEq) told cells.now (λ xs. told ≡ Some (vector_reply (kit_of R.Element R.PartialEq) (shape layout.now) xs))) result }
 {
-    let Some(block) = elements::<R>(heap, cells)? else {
-        return Ok(None);
-    };
-    let text = vector_text(heap, layout, &block)?;
-    Ok(Some(text))
+    let block = elements::<R>(heap, cells)?;
+    let witness = witness_of_vector(layout, &block)?;
+    Ok(witness_text(heap, witness)?)
 }
 
-fn vector_text<R: Element + PartialEq>(
-    heap: Global,
-    layout: &JaggedLayout,
-    cells: &[R],
-) -> Result<String, AllocError>
-    ensures { IfOk result (λ s. string_bytes s ≡ vector_reply (kit_of R.Element R.PartialEq) (shape layout.now) cells.now) }
-{
-    match witness_of_vector(layout, cells) {
-        Ok(witness) => {
-            let all = cells_text(heap, witness)?;
-            format!(in heap; "ok cells={all}")
-        }
-        Err(fault) => fault_text(heap, &fault),
-    }
-}
-
-fn buffer_answer<R: Element + PartialEq>(
+fn buffer_told<R: Element + PartialEq>(
     heap: Global,
     layout: &JaggedLayout,
     cells: &[usize],
-) -> Result<Option<String>, AllocError>
-    ensures { IfOk result (λ o. Given (kit_of R.Element R.PartialEq) (option_map string_bytes o) cells.now (λ xs. option_map string_bytes o ≡ Some (buffer_reply (kit_of R.Element R.PartialEq) (shape layout.now) xs))) }
+) -> Result<String, Refusal>
+    ensures { Tells string_bytes (λ told. Given (kit_of R.Element R.PartialEq) told cells.now (λ xs. told ≡ Some (buffer_reply (kit_of R.Element R.PartialEq) (shape layout.now) xs))) result }
 {
-    let Some(block) = elements::<R>(heap, cells)? else {
-        return Ok(None);
-    };
-    let text = buffer_text(heap, layout, &block)?;
-    Ok(Some(text))
+    let block = elements::<R>(heap, cells)?;
+    let witness = witness_of_buffer(layout, &block)?;
+    Ok(witness_text(heap, witness)?)
 }
 
-fn buffer_text<R: Element + PartialEq>(
-    heap: Global,
-    layout: &JaggedLayout,
-    cells: &[R],
-) -> Result<String, AllocError>
-    ensures { IfOk result (λ s. string_bytes s ≡ buffer_reply (kit_of R.Element R.PartialEq) (shape layout.now) cells.now) }
+// What is told of a witness: its cells.
+fn witness_text<R: Element + PartialEq>(heap: Global, cells: &[R]) -> Result<String, AllocError>
+    ensures { IfOk result (λ s. string_bytes s ≡ codes "ok" ++ cells_field (kit_of R.Element R.PartialEq) cells.now) }
 {
-    match witness_of_buffer(layout, cells) {
-        Ok(witness) => {
-            let all = cells_text(heap, witness)?;
-            format!(in heap; "ok cells={all}")
-        }
-        Err(fault) => fault_text(heap, &fault),
-    }
+    let all = cells_text(heap, cells)?;
+    format!(in heap; "ok cells={all}")
 }
 
-fn piece_answer<R: Element + PartialEq>(
+fn piece_told<R: Element + PartialEq>(
     heap: Global,
     table: &[Record],
     column: usize,
     cells: &[usize],
     words: &[usize],
     buffer: &[usize],
-) -> Result<Option<String>, AllocError>
-    ensures { IfOk result (λ o. Given (kit_of R.Element R.PartialEq) (option_map string_bytes o) cells.now (λ xs. Given (kit_of R.Element R.PartialEq) (option_map string_bytes o) buffer.now (λ bs. Telling (kit_of R.Element R.PartialEq) (option_map string_bytes o) (PieceReply (kit_of R.Element R.PartialEq) table.now column xs words.now bs)))) }
+) -> Result<String, Refusal>
+    ensures { Tells string_bytes (λ told. Given (kit_of R.Element R.PartialEq) told cells.now (λ xs. Given (kit_of R.Element R.PartialEq) told buffer.now (λ bs. Telling (kit_of R.Element R.PartialEq) told (PieceReply (kit_of R.Element R.PartialEq) table.now column xs words.now bs)))) result }
 {
-    let Some(block) = elements::<R>(heap, cells)? else {
-        return Ok(None);
-    };
-    let Some(mut room) = elements::<R>(heap, buffer)? else {
-        return Ok(None);
-    };
+    let block = elements::<R>(heap, cells)?;
+    let mut room = elements::<R>(heap, buffer)?;
     let bits = block_words(heap, words)?;
-    let text = piece_text(heap, table, column, &block, &bits, &mut room)?;
-    Ok(Some(text))
-}
-
-fn piece_text<R: Element + PartialEq>(
-    heap: Global,
-    table: &[Record],
-    column: usize,
-    cells: &[R],
-    words: &[u64],
-    buffer: &mut [R],
-) -> Result<String, AllocError>
-    ensures { IfOk result (λ s. PieceReply (kit_of R.Element R.PartialEq) table.now column cells.now words.now buffer.old (string_bytes s)) }
-{
-    match write_piece(table, column, cells, words, buffer) {
-        Ok(rows) => {
-            let all = cells_text(heap, buffer)?;
-            format!(in heap; "ok height={rows} cells={all}")
-        }
-        Err(fault) => fault_text(heap, &fault),
-    }
+    let rows = write_piece(table, column, &block, &bits, &mut room)?;
+    let all = cells_text(heap, &room)?;
+    Ok(format!(in heap; "ok height={rows} cells={all}")?)
 }

@@ -1,315 +1,204 @@
 // What the words of a line say of a call on tables.
-ghost use Rattle.std.specs.Prelude.{◌≡◌, IfOk};
-ghost use Rattle.std.specs.Option.{option_map};
 ghost use Rattle.words.specs.Cuts.{texts};
+ghost use Rattle.words.specs.Said.{Says};
 ghost use Rattle.script_sources.specs.Calls.{said, cells_said, order_says, height_says, pass_says, heights_says, piece_height_says, read_columns_says, read_committed_says, witness_of_vector_says, witness_of_buffer_says, write_piece_says, table_says, cells_says, kind_says, line_says, meaning};
 ghost use Rattle.script_sources.specs.Tables.{headed};
 
 use crate::call::{Call, CellsCall};
 use crate::table::table;
 use script::ring_kind;
-use std::alloc::{AllocError, Global};
-use words::{list, name, number, says};
+use std::alloc::Global;
+use words::{Unsaid, list, name, number, says};
 
 // The call that the words of a line say, if they say one.
-pub(crate) fn parse(heap: Global, words: &[&[u8]]) -> Result<Option<Call>, AllocError>
-    ensures { IfOk result (λ o. option_map said o ≡ meaning (texts words.now)) }
+#[tactic(auto, unfolding(crate::specs::Calls::meaning))]
+pub(crate) fn parse(heap: Global, words: &[&[u8]]) -> Result<Call, Unsaid>
+    ensures { Says said (meaning (texts words.now)) result }
 {
-    if words.is_empty() {
-        return Ok(None);
-    }
-    line_call(heap, words[0], &words[1..])
-}
-
-fn line_call(heap: Global, name: &[u8], arguments: &[&[u8]]) -> Result<Option<Call>, AllocError>
-    ensures { IfOk result (λ o. option_map said o ≡ line_says name.now (texts arguments.now)) }
-{
-    match table_call(heap, name, arguments)? {
-        Some(call) => Ok(Some(call)),
-        None => cells_line(heap, name, arguments),
+    let [name, arguments @ ..] = words else {
+        return Err(Unsaid::Nothing);
+    };
+    match table_call(heap, name, arguments) {
+        Err(Unsaid::Nothing) => kind_call(heap, name, arguments),
+        told => told,
     }
 }
 
-fn table_call(heap: Global, name: &[u8], arguments: &[&[u8]]) -> Result<Option<Call>, AllocError>
-    ensures { IfOk result (λ o. option_map said o ≡ table_says name.now (texts arguments.now)) }
+fn table_call(heap: Global, name: &[u8], arguments: &[&[u8]]) -> Result<Call, Unsaid>
+    ensures { Says said (table_says name.now (texts arguments.now)) result }
 {
     if says(name, "check_order") {
-        return order_call(heap, arguments);
+        order_call(heap, arguments)
+    } else if says(name, "height") {
+        height_call(heap, arguments)
+    } else if says(name, "pass") {
+        pass_call(heap, arguments)
+    } else if says(name, "heights") {
+        heights_call(heap, arguments)
+    } else if says(name, "piece_height") {
+        piece_height_call(heap, arguments)
+    } else {
+        Err(Unsaid::Nothing)
     }
-    if says(name, "height") {
-        return height_call(heap, arguments);
-    }
-    if says(name, "pass") {
-        return pass_call(heap, arguments);
-    }
-    if says(name, "heights") {
-        return heights_call(heap, arguments);
-    }
-    if says(name, "piece_height") {
-        return piece_height_call(heap, arguments);
-    }
-    Ok(None)
 }
 
 // A call at a ring kind, which stands first.
-fn cells_line(heap: Global, name: &[u8], arguments: &[&[u8]]) -> Result<Option<Call>, AllocError>
-    ensures { IfOk result (λ o. option_map said o ≡ headed (kind_says name.now) (texts arguments.now)) }
+fn kind_call(heap: Global, name: &[u8], arguments: &[&[u8]]) -> Result<Call, Unsaid>
+    ensures { Says said (headed (kind_says name.now) (texts arguments.now)) result }
 {
-    if arguments.is_empty() {
-        return Ok(None);
-    }
-    kind_call(heap, name, arguments[0], &arguments[1..])
-}
-
-fn kind_call(
-    heap: Global,
-    name: &[u8],
-    word: &[u8],
-    arguments: &[&[u8]],
-) -> Result<Option<Call>, AllocError>
-    ensures { IfOk result (λ o. option_map said o ≡ kind_says name.now word.now (texts arguments.now)) }
-{
-    let Some(kind) = ring_kind(word) else {
-        return Ok(None);
+    let [kind, arguments @ ..] = arguments else {
+        return Err(Unsaid::Nothing);
     };
-    match cells_call(heap, name, arguments)? {
-        Some(call) => Ok(Some(Call::Cells { kind, call })),
-        None => Ok(None),
-    }
+    Ok(Call::Cells {
+        kind: ring_kind(kind).ok_or(Unsaid::Nothing)?,
+        call: cells_call(heap, name, arguments)?,
+    })
 }
 
-fn cells_call(
-    heap: Global,
-    name: &[u8],
-    arguments: &[&[u8]],
-) -> Result<Option<CellsCall>, AllocError>
-    ensures { IfOk result (λ o. option_map cells_said o ≡ cells_says name.now (texts arguments.now)) }
+fn cells_call(heap: Global, name: &[u8], arguments: &[&[u8]]) -> Result<CellsCall, Unsaid>
+    ensures { Says cells_said (cells_says name.now (texts arguments.now)) result }
 {
     if says(name, "read_columns") {
-        return read_columns_call(heap, arguments);
+        read_columns_call(heap, arguments)
+    } else if says(name, "read_committed") {
+        read_committed_call(heap, arguments)
+    } else if says(name, "witness_of_vector") {
+        witness_of_vector_call(heap, arguments)
+    } else if says(name, "witness_of_buffer") {
+        witness_of_buffer_call(heap, arguments)
+    } else if says(name, "write_piece") {
+        write_piece_call(heap, arguments)
+    } else {
+        Err(Unsaid::Nothing)
     }
-    if says(name, "read_committed") {
-        return read_committed_call(heap, arguments);
-    }
-    if says(name, "witness_of_vector") {
-        return witness_of_vector_call(heap, arguments);
-    }
-    if says(name, "witness_of_buffer") {
-        return witness_of_buffer_call(heap, arguments);
-    }
-    if says(name, "write_piece") {
-        return write_piece_call(heap, arguments);
-    }
-    Ok(None)
 }
 
-fn order_call(heap: Global, arguments: &[&[u8]]) -> Result<Option<Call>, AllocError>
-    ensures { IfOk result (λ o. option_map said o ≡ order_says (texts arguments.now)) }
+fn order_call(heap: Global, arguments: &[&[u8]]) -> Result<Call, Unsaid>
+    ensures { Says said (order_says (texts arguments.now)) result }
 {
-    if arguments.len() != 2 {
-        return Ok(None);
-    }
-    let Some(table) = table(heap, arguments[0])? else {
-        return Ok(None);
+    let [records, sources] = arguments else {
+        return Err(Unsaid::Nothing);
     };
-    let Some(sources) = number(arguments[1]) else {
-        return Ok(None);
-    };
-    Ok(Some(Call::CheckOrder { table, sources }))
+    Ok(Call::CheckOrder {
+        table: table(heap, records)?,
+        sources: number(sources).ok_or(Unsaid::Nothing)?,
+    })
 }
 
-fn height_call(heap: Global, arguments: &[&[u8]]) -> Result<Option<Call>, AllocError>
-    ensures { IfOk result (λ o. option_map said o ≡ height_says (texts arguments.now)) }
+fn height_call(heap: Global, arguments: &[&[u8]]) -> Result<Call, Unsaid>
+    ensures { Says said (height_says (texts arguments.now)) result }
 {
-    if arguments.len() != 3 {
-        return Ok(None);
-    }
-    let Some(table) = table(heap, arguments[0])? else {
-        return Ok(None);
+    let [records, sources, column] = arguments else {
+        return Err(Unsaid::Nothing);
     };
-    let Some(sources) = number(arguments[1]) else {
-        return Ok(None);
-    };
-    let Some(column) = number(arguments[2]) else {
-        return Ok(None);
-    };
-    Ok(Some(Call::Height {
-        table,
-        sources,
-        column,
-    }))
+    Ok(Call::Height {
+        table: table(heap, records)?,
+        sources: number(sources).ok_or(Unsaid::Nothing)?,
+        column: number(column).ok_or(Unsaid::Nothing)?,
+    })
 }
 
-fn pass_call(heap: Global, arguments: &[&[u8]]) -> Result<Option<Call>, AllocError>
-    ensures { IfOk result (λ o. option_map said o ≡ pass_says (texts arguments.now)) }
+fn pass_call(heap: Global, arguments: &[&[u8]]) -> Result<Call, Unsaid>
+    ensures { Says said (pass_says (texts arguments.now)) result }
 {
-    if arguments.len() != 3 {
-        return Ok(None);
-    }
-    let Some(table) = table(heap, arguments[0])? else {
-        return Ok(None);
+    let [records, sources, column] = arguments else {
+        return Err(Unsaid::Nothing);
     };
-    let Some(sources) = number(arguments[1]) else {
-        return Ok(None);
-    };
-    let Some(column) = number(arguments[2]) else {
-        return Ok(None);
-    };
-    Ok(Some(Call::Pass {
-        table,
-        sources,
-        column,
-    }))
+    Ok(Call::Pass {
+        table: table(heap, records)?,
+        sources: number(sources).ok_or(Unsaid::Nothing)?,
+        column: number(column).ok_or(Unsaid::Nothing)?,
+    })
 }
 
-fn heights_call(heap: Global, arguments: &[&[u8]]) -> Result<Option<Call>, AllocError>
-    ensures { IfOk result (λ o. option_map said o ≡ heights_says (texts arguments.now)) }
+fn heights_call(heap: Global, arguments: &[&[u8]]) -> Result<Call, Unsaid>
+    ensures { Says said (heights_says (texts arguments.now)) result }
 {
-    if arguments.len() != 3 {
-        return Ok(None);
-    }
-    let Some(table) = table(heap, arguments[0])? else {
-        return Ok(None);
+    let [records, sources, buffer] = arguments else {
+        return Err(Unsaid::Nothing);
     };
-    let Some(sources) = number(arguments[1]) else {
-        return Ok(None);
-    };
-    let Some(buffer) = list(heap, arguments[2])? else {
-        return Ok(None);
-    };
-    Ok(Some(Call::Heights {
-        table,
-        sources,
-        buffer,
-    }))
+    Ok(Call::Heights {
+        table: table(heap, records)?,
+        sources: number(sources).ok_or(Unsaid::Nothing)?,
+        buffer: list(heap, buffer)?,
+    })
 }
 
-fn piece_height_call(heap: Global, arguments: &[&[u8]]) -> Result<Option<Call>, AllocError>
-    ensures { IfOk result (λ o. option_map said o ≡ piece_height_says (texts arguments.now)) }
+fn piece_height_call(heap: Global, arguments: &[&[u8]]) -> Result<Call, Unsaid>
+    ensures { Says said (piece_height_says (texts arguments.now)) result }
 {
-    if arguments.len() != 2 {
-        return Ok(None);
-    }
-    let Some(table) = table(heap, arguments[0])? else {
-        return Ok(None);
+    let [records, column] = arguments else {
+        return Err(Unsaid::Nothing);
     };
-    let Some(column) = number(arguments[1]) else {
-        return Ok(None);
-    };
-    Ok(Some(Call::PieceHeight { table, column }))
+    Ok(Call::PieceHeight {
+        table: table(heap, records)?,
+        column: number(column).ok_or(Unsaid::Nothing)?,
+    })
 }
 
-fn read_columns_call(heap: Global, arguments: &[&[u8]]) -> Result<Option<CellsCall>, AllocError>
-    ensures { IfOk result (λ o. option_map cells_said o ≡ read_columns_says (texts arguments.now)) }
+fn read_columns_call(heap: Global, arguments: &[&[u8]]) -> Result<CellsCall, Unsaid>
+    ensures { Says cells_said (read_columns_says (texts arguments.now)) result }
 {
-    if arguments.len() != 6 {
-        return Ok(None);
-    }
-    let Some(name) = name(heap, arguments[0])? else {
-        return Ok(None);
+    let [slot, records, sources, cells, words, buffer] = arguments else {
+        return Err(Unsaid::Nothing);
     };
-    let Some(table) = table(heap, arguments[1])? else {
-        return Ok(None);
-    };
-    let Some(sources) = number(arguments[2]) else {
-        return Ok(None);
-    };
-    let Some(cells) = list(heap, arguments[3])? else {
-        return Ok(None);
-    };
-    let Some(words) = list(heap, arguments[4])? else {
-        return Ok(None);
-    };
-    let Some(buffer) = list(heap, arguments[5])? else {
-        return Ok(None);
-    };
-    Ok(Some(CellsCall::ReadColumns {
-        name,
-        table,
-        sources,
-        cells,
-        words,
-        buffer,
-    }))
+    Ok(CellsCall::ReadColumns {
+        name: name(heap, slot)?,
+        table: table(heap, records)?,
+        sources: number(sources).ok_or(Unsaid::Nothing)?,
+        cells: list(heap, cells)?,
+        words: list(heap, words)?,
+        buffer: list(heap, buffer)?,
+    })
 }
 
-fn read_committed_call(heap: Global, arguments: &[&[u8]]) -> Result<Option<CellsCall>, AllocError>
-    ensures { IfOk result (λ o. option_map cells_said o ≡ read_committed_says (texts arguments.now)) }
+fn read_committed_call(heap: Global, arguments: &[&[u8]]) -> Result<CellsCall, Unsaid>
+    ensures { Says cells_said (read_committed_says (texts arguments.now)) result }
 {
-    if arguments.len() != 2 {
-        return Ok(None);
-    }
-    let Some(name) = name(heap, arguments[0])? else {
-        return Ok(None);
+    let [slot, cells] = arguments else {
+        return Err(Unsaid::Nothing);
     };
-    let Some(cells) = list(heap, arguments[1])? else {
-        return Ok(None);
-    };
-    Ok(Some(CellsCall::ReadCommitted { name, cells }))
+    Ok(CellsCall::ReadCommitted {
+        name: name(heap, slot)?,
+        cells: list(heap, cells)?,
+    })
 }
 
-fn witness_of_vector_call(
-    heap: Global,
-    arguments: &[&[u8]],
-) -> Result<Option<CellsCall>, AllocError>
-    ensures { IfOk result (λ o. option_map cells_said o ≡ witness_of_vector_says (texts arguments.now)) }
+fn witness_of_vector_call(heap: Global, arguments: &[&[u8]]) -> Result<CellsCall, Unsaid>
+    ensures { Says cells_said (witness_of_vector_says (texts arguments.now)) result }
 {
-    if arguments.len() != 2 {
-        return Ok(None);
-    }
-    let Some(name) = name(heap, arguments[0])? else {
-        return Ok(None);
+    let [slot, cells] = arguments else {
+        return Err(Unsaid::Nothing);
     };
-    let Some(cells) = list(heap, arguments[1])? else {
-        return Ok(None);
-    };
-    Ok(Some(CellsCall::WitnessOfVector { name, cells }))
+    Ok(CellsCall::WitnessOfVector {
+        name: name(heap, slot)?,
+        cells: list(heap, cells)?,
+    })
 }
 
-fn witness_of_buffer_call(
-    heap: Global,
-    arguments: &[&[u8]],
-) -> Result<Option<CellsCall>, AllocError>
-    ensures { IfOk result (λ o. option_map cells_said o ≡ witness_of_buffer_says (texts arguments.now)) }
+fn witness_of_buffer_call(heap: Global, arguments: &[&[u8]]) -> Result<CellsCall, Unsaid>
+    ensures { Says cells_said (witness_of_buffer_says (texts arguments.now)) result }
 {
-    if arguments.len() != 2 {
-        return Ok(None);
-    }
-    let Some(name) = name(heap, arguments[0])? else {
-        return Ok(None);
+    let [slot, cells] = arguments else {
+        return Err(Unsaid::Nothing);
     };
-    let Some(cells) = list(heap, arguments[1])? else {
-        return Ok(None);
-    };
-    Ok(Some(CellsCall::WitnessOfBuffer { name, cells }))
+    Ok(CellsCall::WitnessOfBuffer {
+        name: name(heap, slot)?,
+        cells: list(heap, cells)?,
+    })
 }
 
-fn write_piece_call(heap: Global, arguments: &[&[u8]]) -> Result<Option<CellsCall>, AllocError>
-    ensures { IfOk result (λ o. option_map cells_said o ≡ write_piece_says (texts arguments.now)) }
+fn write_piece_call(heap: Global, arguments: &[&[u8]]) -> Result<CellsCall, Unsaid>
+    ensures { Says cells_said (write_piece_says (texts arguments.now)) result }
 {
-    if arguments.len() != 5 {
-        return Ok(None);
-    }
-    let Some(table) = table(heap, arguments[0])? else {
-        return Ok(None);
+    let [records, column, cells, words, buffer] = arguments else {
+        return Err(Unsaid::Nothing);
     };
-    let Some(column) = number(arguments[1]) else {
-        return Ok(None);
-    };
-    let Some(cells) = list(heap, arguments[2])? else {
-        return Ok(None);
-    };
-    let Some(words) = list(heap, arguments[3])? else {
-        return Ok(None);
-    };
-    let Some(buffer) = list(heap, arguments[4])? else {
-        return Ok(None);
-    };
-    Ok(Some(CellsCall::WritePiece {
-        table,
-        column,
-        cells,
-        words,
-        buffer,
-    }))
+    Ok(CellsCall::WritePiece {
+        table: table(heap, records)?,
+        column: number(column).ok_or(Unsaid::Nothing)?,
+        cells: list(heap, cells)?,
+        words: list(heap, words)?,
+        buffer: list(heap, buffer)?,
+    })
 }

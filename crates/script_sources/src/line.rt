@@ -1,54 +1,70 @@
 // The answer to a line.
-ghost use Rattle.std.specs.Prelude.{IfOk, string_bytes};
-ghost use Rattle.std.specs.Option.{option_map};
+ghost use Rattle.std.specs.Prelude.{Some, None, string_bytes};
 ghost use Rattle.words.specs.Cuts.{texts};
+ghost use Rattle.words.specs.Said.{MatchSaid};
 ghost use Rattle.script.specs.Slots.{slot};
 ghost use Rattle.script_sources.specs.Calls.{said, meaning};
-ghost use Rattle.script_sources.specs.Replies.{Reply, Answered};
+ghost use Rattle.script_sources.specs.Replies.{Reply, Answered, Tells};
 
-use crate::ask::{height_text, heights_text, order_text, pass_text, piece_height_text};
 use crate::call::Call;
-use crate::cells::kind_answer;
+use crate::cells::kind_told;
 use crate::grammar::parse;
-use script::Session;
-use std::alloc::{AllocError, Global};
+use crate::refusal::Refusal;
+use crate::text::{fault_text, pass_name};
+use ingest::{check_order, height, heights, pass, piece_height};
+use script::{Session, joined};
+use std::alloc::Global;
+use words::Unsaid;
 
-// Makes the call that the words of a line say, and gives the text that is told; none where they say no call.
-pub fn answer(
-    session: &Session,
-    heap: Global,
-    words: &[&[u8]],
-) -> Result<Option<String>, AllocError>
-    ensures { IfOk result (λ o. Answered (slot session.now) (meaning (texts words.now)) (option_map string_bytes o)) }
+// Makes the call that the words of a line say, and gives the text that is told.
+pub fn answer(session: &Session, heap: Global, words: &[&[u8]]) -> Result<String, Unsaid>
+    ensures { MatchSaid result (Answered (slot session.now) (meaning (texts words.now)) None) (λ s. Answered (slot session.now) (meaning (texts words.now)) (Some (string_bytes s))) }
 {
-    match parse(heap, words)? {
-        Some(call) => make(session, heap, call),
-        None => Ok(None),
+    match told(session, heap, parse(heap, words)?) {
+        Ok(text) => Ok(text),
+        Err(Refusal::Fault(fault)) => Ok(fault_text(heap, &fault)?),
+        Err(Refusal::Unsaid(unsaid)) => Err(unsaid),
     }
 }
 
-// Makes a call.
-fn make(session: &Session, heap: Global, call: Call) -> Result<Option<String>, AllocError>
-    ensures { IfOk result (λ o. Reply (slot session.now) (said call) (option_map string_bytes o)) }
+// Makes a call, and tells what it answers.
+fn told(session: &Session, heap: Global, call: Call) -> Result<String, Refusal>
+    ensures { Tells string_bytes (Reply (slot session.now) (said call)) result }
 {
     match call {
-        Call::CheckOrder { table, sources } => Ok(Some(order_text(heap, &table, sources)?)),
+        Call::CheckOrder { table, sources } => {
+            check_order(&table, sources)?;
+            Ok(format!(in heap; "ok")?)
+        }
         Call::Height {
             table,
             sources,
             column,
-        } => Ok(Some(height_text(heap, &table, sources, column)?)),
+        } => {
+            let rows = height(&table, sources, column)?;
+            Ok(format!(in heap; "ok height={rows}")?)
+        }
         Call::Pass {
             table,
             sources,
             column,
-        } => Ok(Some(pass_text(heap, &table, sources, column)?)),
+        } => {
+            let name = pass_name(pass(&table, sources, column)?);
+            Ok(format!(in heap; "ok pass={name}")?)
+        }
         Call::Heights {
             table,
             sources,
             mut buffer,
-        } => Ok(Some(heights_text(heap, &table, sources, &mut buffer)?)),
-        Call::PieceHeight { table, column } => Ok(Some(piece_height_text(heap, &table, column)?)),
-        Call::Cells { kind, call } => kind_answer(session, heap, kind, call),
+        } => {
+            let written = heights(&table, sources, &mut buffer)?;
+            let all = joined(heap, &buffer)?;
+            Ok(format!(in heap; "ok written={written} heights={all}")?)
+        }
+        Call::PieceHeight { table, column } => {
+            let rows = piece_height(&table, column)?;
+            Ok(format!(in heap; "ok height={rows}")?)
+        }
+        Call::Cells { kind, call } => kind_told(session, heap, kind, call),
     }
 }

@@ -1,38 +1,7 @@
-use Rattle.std.proofs.Common.{◌+◌, ◌*◌, ◌<◌, map, length, get_or, sym, ap, ◌∙◌, arith, rules}
+use Rattle.std.proofs.Common.{◌+◌, ◌*◌, map, length, get_or, sym, ap, ◌∙◌, arith}
 use Rattle.std.proofs.lemmas.List.{get_or-map}
 use Rattle.ingest.proofs.Written.{row_more, row_le}
 use Rattle.ingest.proofs.write.write_strided.Goals as goal
-
-pub overflow_mul-out : goal.overflow_mul-out
-overflow_mul-out g c =
-    let le = row_le c.loop-row.row (length c.args.out.now) c.args.stride (omega arith) in
-    let last = c.requires (omega arith) in
-    omega arith
-
-pub overflow_add-out : goal.overflow_add-out
-overflow_add-out g c =
-    let le = row_le c.loop-row.row (length c.args.out.now) c.args.stride (omega arith) in
-    let last = c.requires (omega arith) in
-    omega arith
-
-pub overflow_add-out-in-loop-row : goal.overflow_add-out-in-loop-row
-overflow_add-out-in-loop-row g c =
-    let le = row_le c.loop-row.row (length c.args.out.now) c.args.stride (omega arith) in
-    let last = c.requires (omega arith) in
-    omega arith
-
-pub offset_bounds-cells-place : goal.offset_bounds-cells-place
-offset_bounds-cells-place g c =
-    let le = row_le c.loop-row.row (length c.args.out.now) c.args.stride (omega arith) in
-    let last = c.requires (omega arith) in
-    let h : c.args.place + (c.args.first + c.loop-row.row * c.args.stride) < length c.args.cells.now = omega arith in
-    search rules
-
-pub bounds-cells-place : goal.bounds-cells-place
-bounds-cells-place g c =
-    let le = row_le c.loop-row.row (length c.args.out.now) c.args.stride (omega arith) in
-    let last = c.requires (omega arith) in
-    omega arith
 
 pub loop-row-preserved : goal.loop-row-preserved
 loop-row-preserved g c =

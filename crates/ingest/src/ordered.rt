@@ -1,0 +1,14 @@
+// A table whose order has been checked.
+ghost use Rattle.std.specs.Prelude.{◌≤◌, length};
+ghost use Rattle.ingest.specs.Table.{Sound};
+
+use crate::record::Record;
+
+// The run of each chunk follows it and is present, and so are the columns, one for each source.
+#[derive(Clone, Copy)]
+pub(crate) struct Ordered<'a> {
+    pub(crate) records: &'a [Record],
+    pub(crate) sources: usize,
+    ghost sound: { Sound records.now },
+    ghost present: { sources ≤ length records.now },
+}
