@@ -26,6 +26,8 @@ pub fn answer(session: &Session, heap: Global, words: &[&[u8]]) -> Result<String
     Ok(kind_answer(session, heap, kind, call)?)
 }
 
+// Makes the call at its ring kind.
+// The crates below and above have such a match too: a trait for what is done at a kind's type would want a struct and an impl for each.
 fn kind_answer(
     session: &Session,
     heap: Global,
