@@ -4,19 +4,23 @@ use Rattle.std.proofs.lemmas.Bool.{eq-eqb}
 use Rattle.std.specs.declared.cmp.PartialEq.{Ghosts as PartialEqGhosts}
 use Rattle.ring.specs.declared.coefficient.Coefficient.{Ghosts as CoefficientGhosts}
 use Rattle.ring.specs.declared.kind.Ring.{Ghosts as RingGhosts}
+use Rattle.ingest.specs.declared.account.IngestReport.{IngestReport}
 use Rattle.ingest.specs.declared.fault.JaggedIngestError.{JaggedIngestError}
 use Rattle.ingest.specs.declared.record.ConversionPass.{ConversionPass}
+use Rattle.ingest.specs.Charges.{charged_of}
+use Rattle.ingest.specs.Texts.{report_fields, report_text}
 use Rattle.script.specs.Cells.{Numbered}
 use Rattle.script.specs.Kits.{Kit}
 use Rattle.script.specs.Replies.{answered}
 use Rattle.script.specs.declared.element.Element.{Ghosts as ElementGhosts}
 use Rattle.script.proofs.Numbering.{wholly}
 use Rattle.script_sources.specs.Replies.{cells_field, Buffered, Given, Telling}
-use Rattle.script_sources.specs.Texts.{ingest_fault, report_fields}
+use Rattle.script_sources.specs.Texts.{ingest_fault}
 
--- the same charges have the same text
-pub report_same : {f g : ConversionPass → ℕ} {d e : ℕ} → ((p : ConversionPass) → f p ≡ g p) → d ≡ e → report_fields f d ≡ report_fields g e
-report_same each padding = λ t. report_fields (λ p. each p t) (padding t)
+-- a report of these charges and this padding
+pub report_told : (report : IngestReport) {f : ConversionPass → ℕ} {d : ℕ} → ((p : ConversionPass) → charged_of report p ≡ f p) → report.envelope ≡ d → codes " " ++ report_text report ≡ report_fields f d
+unfolding report_fields
+report_told report each padding = λ t. report_fields (λ p. each p t) (padding t)
 
 -- the kit of a ring kind
 abbrev pub kit : {E : Type 0} → RingGhosts E → CoefficientGhosts E → ElementGhosts E → PartialEqGhosts E → Kit E

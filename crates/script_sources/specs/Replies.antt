@@ -14,6 +14,7 @@ use Rattle.ingest.specs.Piece.{piece_height_checks, piece_checks}
 use Rattle.ingest.specs.Reading.{read_checks, assembled, RowsPlaced}
 use Rattle.ingest.specs.Rows.{rows_at}
 use Rattle.ingest.specs.Table.{height_of, heights_of, pass_of}
+use Rattle.ingest.specs.Texts.{pass_name, report_fields}
 use Rattle.ingest.specs.Vector.{vector_checks, buffer_checks}
 use Rattle.script.specs.declared.call.Kind.{Kind}
 use Rattle.script.specs.declared.call.Kind.TheVariants.{Residue, Word, PairResidue, PairWord, PairPairResidue, PairPairWord}
@@ -25,7 +26,7 @@ use Rattle.words.specs.declared.unsaid.Unsaid.TheVariants.{Nothing, NoMemory}
 use Rattle.script_sources.specs.declared.refusal.Refusal.{Refusal}
 use Rattle.script_sources.specs.declared.refusal.Refusal.TheVariants.{Unsaid, Fault}
 use Rattle.script_sources.specs.Calls.{CellsSaid, read_columns, read_committed, witness_of_vector, witness_of_buffer, write_piece, Said, check_order, height, pass, heights, piece_height, at_kind}
-use Rattle.script_sources.specs.Texts.{ingest_fault, pass_name, report_fields}
+use Rattle.script_sources.specs.Texts.{ingest_fault}
 
 -- a table asked alone: the verdict of its checks, and what an accepted call answers
 abbrev pub order_reply : List Record → ℕ → List ℕ

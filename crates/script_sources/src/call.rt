@@ -3,6 +3,7 @@ use ingest::Record;
 use script::Kind;
 
 // A call at a ring kind. Cells are given by the numbers of their elements.
+// What calls have in common stays apart: ingest takes a table, its sources and the blocks apart, and a struct of them would only be opened there.
 #[derive(Drop)]
 pub(crate) enum CellsCall {
     ReadColumns {

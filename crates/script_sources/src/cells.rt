@@ -8,7 +8,6 @@ ghost use Rattle.script_sources.specs.Replies.{committed_reply, vector_reply, bu
 
 use crate::call::CellsCall;
 use crate::refusal::Refusal;
-use crate::text::report_text;
 use ingest::{
     Record, read_columns, read_committed, witness_of_buffer, witness_of_vector, write_piece,
 };
@@ -18,6 +17,7 @@ use script::{Element, Kind, Session, cells_text, elements};
 use std::alloc::{AllocError, Global};
 
 // Makes a call at its ring kind.
+// A switch from a kind to a type: a trait for what is done at the type would want a struct and an impl for each.
 pub(crate) fn kind_told(
     session: &Session,
     heap: Global,
@@ -96,9 +96,8 @@ fn columns_told<R: Element + PartialEq>(
     let mut room = elements::<R>(heap, buffer)?;
     let bits = block_words(heap, words)?;
     let report = read_columns(layout, table, sources, &block, &bits, &mut room)?;
-    let fields = report_text(heap, &report)?;
     let all = cells_text(heap, &room)?;
-    Ok(format!(in heap; "ok{fields} cells={all}")?)
+    Ok(format!(in heap; "ok {report} cells={all}")?)
 }
 
 fn committed_told<R: Element + PartialEq>(
@@ -110,10 +109,10 @@ fn committed_told<R: Element + PartialEq>(
 {
     let block = elements::<R>(heap, cells)?;
     let report = read_committed(layout, &block)?;
-    let fields = report_text(heap, &report)?;
-    Ok(format!(in heap; "ok{fields}")?)
+    Ok(format!(in heap; "ok {report}")?)
 }
 
+// As for a buffer but for the call: as a closure, the call's contract would be said once more, and at more length than these three lines.
 fn vector_told<R: Element + PartialEq>(
     heap: Global,
     layout: &JaggedLayout,

@@ -7,6 +7,5 @@ mod grammar;
 mod line;
 mod refusal;
 mod table;
-mod text;
 
 pub use line::answer;

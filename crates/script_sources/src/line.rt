@@ -1,19 +1,19 @@
 // The answer to a line.
-ghost use Rattle.std.specs.Prelude.{Some, None, string_bytes};
+ghost use Rattle.std.specs.Prelude.{◌≡◌, Some, None, IfOk, string_bytes};
 ghost use Rattle.words.specs.Cuts.{texts};
 ghost use Rattle.words.specs.Said.{MatchSaid};
 ghost use Rattle.script.specs.Slots.{slot};
 ghost use Rattle.script_sources.specs.Calls.{said, meaning};
 ghost use Rattle.script_sources.specs.Replies.{Reply, Answered, Tells};
+ghost use Rattle.script_sources.specs.Texts.{ingest_fault};
 
 use crate::call::Call;
 use crate::cells::kind_told;
 use crate::grammar::parse;
 use crate::refusal::Refusal;
-use crate::text::{fault_text, pass_name};
-use ingest::{check_order, height, heights, pass, piece_height};
+use ingest::{JaggedIngestError, check_order, height, heights, pass, piece_height};
 use script::{Session, joined};
-use std::alloc::Global;
+use std::alloc::{AllocError, Global};
 use words::Unsaid;
 
 // Makes the call that the words of a line say, and gives the text that is told.
@@ -49,8 +49,8 @@ fn told(session: &Session, heap: Global, call: Call) -> Result<String, Refusal>
             sources,
             column,
         } => {
-            let name = pass_name(pass(&table, sources, column)?);
-            Ok(format!(in heap; "ok pass={name}")?)
+            let found = pass(&table, sources, column)?;
+            Ok(format!(in heap; "ok pass={found}")?)
         }
         Call::Heights {
             table,
@@ -67,4 +67,12 @@ fn told(session: &Session, heap: Global, call: Call) -> Result<String, Refusal>
         }
         Call::Cells { kind, call } => kind_told(session, heap, kind, call),
     }
+}
+
+// A fault's number, then its name and its fields.
+fn fault_text(heap: Global, fault: &JaggedIngestError) -> Result<String, AllocError>
+    ensures { IfOk result (λ s. string_bytes s ≡ ingest_fault fault.now) }
+{
+    let number = fault.number();
+    format!(in heap; "fault {number} {fault}")
 }

@@ -5,7 +5,7 @@ use Rattle.layout.specs.Layout.{shape}
 use Rattle.ingest.specs.Reading.{read_checks}
 use Rattle.script.specs.Records.{separated}
 use Rattle.script_sources.specs.Replies.{columns_fields, Read, ReadReply}
-use Rattle.script_sources.proofs.Making.{kit, report_same, given_both, buffered, buffered_fault}
+use Rattle.script_sources.proofs.Making.{kit, report_told, given_both, buffered, buffered_fault}
 use Rattle.script_sources.proofs.cells.columns_told.Goals as goal
 
 pub returns-in_err-report : goal.returns-in_err-report
@@ -31,7 +31,7 @@ returns g c =
     let bs = c.deref_mut.result.now in
     let words = c.deref-2.ensures.value ∙ c.in_ok-bits.ensures in
     let made = c.in_ok-report.ensures in
-    let fields = c.in_ok-fields.ensures ∙ report_same made.report.0 made.report.1 in
+    let fields = report_told c.in_ok-report.report made.report.0 made.report.1 in
     let kept = with_items_is c.in_ok-room.room c.read_columns.new.buffer (omega (arith, c.read_columns.auto.buffer, c.deref_mut.ensures.len)) in
     let all = c.in_ok-all.ensures ∙ ap (separated K.text) (c.deref-3.ensures.value ∙ kept) in
     let text = string_bytes c.in_ok-format.field-0 in

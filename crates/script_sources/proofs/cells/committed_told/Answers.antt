@@ -2,7 +2,7 @@ use Rattle.std.proofs.Common.{List, ◌++◌, length, vec_items, string_bytes, c
 use Rattle.layout.specs.Layout.{shape}
 use Rattle.script_sources.specs.Replies.{committed_reply}
 use Rattle.script_sources.specs.Texts.{ingest_fault}
-use Rattle.script_sources.proofs.Making.{kit, report_same, accepted_told, refused_told, given_text}
+use Rattle.script_sources.proofs.Making.{kit, report_told, accepted_told, refused_told, given_text}
 use Rattle.script_sources.proofs.cells.committed_told.Goals as goal
 
 pub returns-in_err-report : goal.returns-in_err-report
@@ -17,7 +17,7 @@ pub returns : goal.returns
 returns g c =
     let K = kit g.R.Ring g.R.Coefficient g.R.Element g.R.PartialEq in
     let told = c.in_ok-report.ensures in
-    let fields = c.in_ok-fields.ensures ∙ report_same told.report.0 told.report.1 in
+    let fields = report_told c.in_ok-report.report told.report.0 told.report.1 in
     given_text K c.args.cells.now (vec_items c.in_ok-block.block) c.deref.result.now c.in_ok-block.ensures c.deref.ensures.value
     (string_bytes c.in_ok-format.field-0) (λ (xs : List g.row.R.Denot). committed_reply (shape c.args.layout.now) (length xs)) (accepted_told _ ingest_fault _ tt _ told.answer
     (c.in_ok-format.ensures.ok ∙ (λ t. codes "ok" ++ fields t)))
