@@ -1,15 +1,16 @@
 // Makes the call of a line, and gives the line to print.
-ghost use Rattle.std.specs.Prelude.{◌≡◌, ℕ, List, IfOk, string_bytes, OnOk};
+ghost use Rattle.std.specs.Prelude.{◌≡◌, ℕ, List, IfOk, string_bytes, codes, OnOk};
 ghost use Rattle.std.specs.Option.{option_map};
 ghost use Rattle.words.specs.Cuts.{texts};
+ghost use Rattle.words.specs.Said.{MatchSaid};
 ghost use Rattle.script.specs.Calls.{meaning};
 ghost use Rattle.script.specs.Lines.{slots_by, slots_after_line};
 ghost use Rattle.script.specs.Slots.{slot};
-ghost use Rattle.lines.specs.Lines.{SourceTells, SelectorTells, Tells, Prints};
+ghost use Rattle.lines.specs.Lines.{SelectorTells, Tells, Prints};
 
 use script::{Session, answer_text, is_skipped, parse};
 use std::alloc::{AllocError, Global};
-use words::words;
+use words::{Unsaid, words};
 
 // Makes the call of a line, and gives the line to print; none where the line is blank or a comment.
 pub fn step(
@@ -35,31 +36,33 @@ fn told(session: &mut Session, heap: Global, words: &[&[u8]]) -> Result<String, 
     ensures told { IfOk result (λ s. Tells (slot session.old) (texts words.now) (meaning (texts words.now)) (string_bytes s)) }
     ensures slots { OnOk result ((other : List ℕ) → slot session.new other ≡ slots_by (slot session.old) (meaning (texts words.now)) other) }
 {
-    match parse(heap, words)? {
-        Some(call) => {
+    match parse(heap, words) {
+        Ok(call) => {
             let answer = session.make(heap, call)?;
             answer_text(heap, &answer)
         }
-        None => selector_told(session, heap, words),
+        Err(Unsaid::Nothing) => other_told(session, heap, words),
+        Err(Unsaid::NoMemory(fault)) => Err(fault),
+    }
+}
+
+// What the lines of the other layers tell, or else that the line is no call.
+fn other_told(session: &Session, heap: Global, words: &[&[u8]]) -> Result<String, AllocError>
+    ensures { IfOk result (λ s. SelectorTells (slot session.now) (texts words.now) (string_bytes s)) }
+{
+    match other_answer(session, heap, words) {
+        Ok(text) => Ok(text),
+        Err(Unsaid::Nothing) => format!(in heap; "no call"),
+        Err(Unsaid::NoMemory(fault)) => Err(fault),
     }
 }
 
 // What the selector's lines tell, or else those of the sources.
-fn selector_told(session: &Session, heap: Global, words: &[&[u8]]) -> Result<String, AllocError>
-    ensures { IfOk result (λ s. SelectorTells (slot session.now) (texts words.now) (string_bytes s)) }
+fn other_answer(session: &Session, heap: Global, words: &[&[u8]]) -> Result<String, Unsaid>
+    ensures { MatchSaid result (SelectorTells (slot session.now) (texts words.now) (codes "no call")) (λ s. SelectorTells (slot session.now) (texts words.now) (string_bytes s)) }
 {
-    match script_selector::answer(session, heap, words)? {
-        Some(text) => Ok(text),
-        None => source_told(session, heap, words),
-    }
-}
-
-// What the sources' lines tell, or else that the line is no call.
-fn source_told(session: &Session, heap: Global, words: &[&[u8]]) -> Result<String, AllocError>
-    ensures { IfOk result (λ s. SourceTells (slot session.now) (texts words.now) (string_bytes s)) }
-{
-    match script_sources::answer(session, heap, words)? {
-        Some(text) => Ok(text),
-        None => format!(in heap; "no call"),
+    match script_selector::answer(session, heap, words) {
+        Err(Unsaid::Nothing) => script_sources::answer(session, heap, words),
+        told => told,
     }
 }

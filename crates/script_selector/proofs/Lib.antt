@@ -1,4 +1,2 @@
 pub mod Equal
 pub mod Giving
-pub mod Reading
-pub mod Telling

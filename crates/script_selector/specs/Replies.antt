@@ -1,5 +1,5 @@
 -- What the calls of the selector are answered. Assumes nothing.
-use Rattle.std.specs.Prelude.{◌≡◌, ℕ, ◌%◌, ◌<◌, List, ◌++◌, map, length, drop, Some, None, Ok, Err, codes, decimal, MatchBool, Option, Result, ◌==◌, slice_index_or}
+use Rattle.std.specs.Prelude.{◌≡◌, ℕ, ◌%◌, ◌<◌, List, ◌++◌, map, length, drop, Some, None, Ok, Err, vec_items, codes, decimal, MatchBool, Option, Result, ◌==◌, slice_index_or}
 use Rattle.ring.specs.Checks.{verdict}
 use Rattle.layout.specs.Shape.{Shape, capacity}
 use Rattle.selector.specs.declared.error.JaggedError.{JaggedError}
@@ -12,7 +12,8 @@ use Rattle.script.specs.declared.call.Kind.TheVariants.{Residue, Word, PairResid
 use Rattle.script.specs.Cells.{Numbered}
 use Rattle.script.specs.Kits.{Kit, residue_kit, word_kit, pair_kit}
 use Rattle.script.specs.Records.{field, separated}
-use Rattle.script_selector.specs.Calls.{Said, prefix, table, evaluate}
+use Rattle.script_selector.specs.declared.cells.Elements.{Elements}
+use Rattle.script_selector.specs.Calls.{Place, Said, prefix, table, evaluate}
 use Rattle.script_selector.specs.Faults.{fault_text}
 
 module _ {E : Type 0} (K : Kit E) where
@@ -31,10 +32,20 @@ module _ {E : Type 0} (K : Kit E) where
     pub cells : Table K.ops S (values row) (values column) (values after)
     pub kept : drop (capacity S) after ≡ drop (capacity S) before
 
+  -- the elements of a place's numbers
+  pub record Placed (a : Place) (e : Elements E) : Type 0 where
+    pub row : Numbered K.parts K.numbered a.row (vec_items e.row)
+    pub column : Numbered K.parts K.numbered a.column (vec_items e.column)
+    pub cells : Numbered K.parts K.numbered a.cells (vec_items e.cells)
+
   module _ (text : List ℕ) where
     -- the cells of these numbers; the line is no call where the numbers end amid an element
     abbrev pub Given : List ℕ → (List E → Type 0) → Type 0
     Given ns P = MatchBool (length ns % K.parts == 0) ((xs : List E) × Numbered K.parts K.numbered ns xs × P xs) (text ≡ codes "no call")
+
+    -- what is told where a list of a place's numbers ends amid an element
+    abbrev pub Unplaced : Place → Type 0
+    Unplaced a = Given a.row (λ _. Given a.column (λ _. Given a.cells (λ _. ⊥)))
 
     -- an accepted call, or the text of its fault
     abbrev pub Judged : {T : Type 0} → Result T JaggedError → (T → Type 0) → Type 0

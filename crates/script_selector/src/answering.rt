@@ -1,34 +1,33 @@
 // Makes the calls of the selector's lines.
-ghost use Rattle.std.specs.Prelude.{◌≡◌, IfOk, string_bytes, codes};
-ghost use Rattle.std.specs.Option.{option_map};
+ghost use Rattle.std.specs.Prelude.{◌≡◌, Some, None, IfOk, string_bytes, codes};
 ghost use Rattle.layout.specs.Layout.{shape};
 ghost use Rattle.words.specs.Cuts.{texts};
+ghost use Rattle.words.specs.Said.{MatchSaid};
+ghost use Rattle.script.specs.Kits.{kit_of};
 ghost use Rattle.script.specs.Slots.{slot};
 ghost use Rattle.script_selector.specs.Calls.{said, meaning};
-ghost use Rattle.script_selector.specs.Replies.{Given, Weights, Tabled, Evaluated, Reply, KindReply, Answered};
+ghost use Rattle.script_selector.specs.Replies.{Reply, KindReply, Answered};
 
 use crate::call::Call;
+use crate::cells::Elements;
 use crate::grammar::parse;
 use crate::reply::{evaluated, tabled, weights};
-use layout::JaggedLayout;
 use ring::{Pair, Residue, Word};
 use script::{Element, Kind, Session, elements};
+use selector::JaggedPoint;
 use std::alloc::{AllocError, Global};
+use words::Unsaid;
 
-// What is told of the call that words say, after the line's number; none where they say no call of the selector.
-pub fn answer(
-    session: &Session,
-    heap: Global,
-    words: &[&[u8]],
-) -> Result<Option<String>, AllocError>
-    ensures { IfOk result (λ o. Answered (slot session.now) (meaning (texts words.now)) (option_map string_bytes o)) }
+// What is told of the call that words say, after the line's number.
+pub fn answer(session: &Session, heap: Global, words: &[&[u8]]) -> Result<String, Unsaid>
+    ensures { MatchSaid result (Answered (slot session.now) (meaning (texts words.now)) None) (λ s. Answered (slot session.now) (meaning (texts words.now)) (Some (string_bytes s))) }
 {
-    match parse(heap, words)? {
-        Some((kind, call)) => Ok(Some(kind_answer(session, heap, kind, call)?)),
-        None => Ok(None),
-    }
+    let (kind, call) = parse(heap, words)?;
+    Ok(kind_answer(session, heap, kind, call)?)
 }
 
+// Makes the call at its ring kind.
+// The crates below and above have such a match too: a trait for what is done at a kind's type would want a struct and an impl for each.
 fn kind_answer(
     session: &Session,
     heap: Global,
@@ -47,6 +46,7 @@ fn kind_answer(
     }
 }
 
+// A list that ends amid an element makes the line no call.
 fn element_answer<R: Element + PartialEq>(
     session: &Session,
     heap: Global,
@@ -54,79 +54,39 @@ fn element_answer<R: Element + PartialEq>(
 ) -> Result<String, AllocError>
     ensures { IfOk result (λ s. Reply (kit_of R.Element R.PartialEq) (string_bytes s) (slot session.now) (said call)) }
 {
-    match call {
-        Call::EqualityPrefix { point, buffer } => prefix_text::<R>(heap, &point, &buffer),
-        Call::Table { asked } => {
-            let layout = session.held(asked.name.as_str());
-            table_text::<R>(heap, &layout, &asked.row, &asked.column, &asked.cells)
-        }
-        Call::Evaluate { asked } => {
-            let layout = session.held(asked.name.as_str());
-            value_text::<R>(heap, &layout, &asked.row, &asked.column, &asked.cells)
-        }
+    match told::<R>(session, heap, call) {
+        Ok(text) => Ok(text),
+        Err(Unsaid::Nothing) => format!(in heap; "no call"),
+        Err(Unsaid::NoMemory(fault)) => Err(fault),
     }
 }
 
-fn no_call(heap: Global) -> Result<String, AllocError>
-    ensures { IfOk result (λ s. string_bytes s ≡ codes "no call") }
-{
-    format!(in heap; "no call")
-}
-
-fn prefix_text<R: Element + PartialEq>(
+fn told<R: Element + PartialEq>(
+    session: &Session,
     heap: Global,
-    point: &[usize],
-    buffer: &[usize],
-) -> Result<String, AllocError>
-    ensures { IfOk result (λ s. Given (kit_of R.Element R.PartialEq) (string_bytes s) point.now (λ p. Given (kit_of R.Element R.PartialEq) (string_bytes s) buffer.now (Weights (kit_of R.Element R.PartialEq) (string_bytes s) p))) }
+    call: Call,
+) -> Result<String, Unsaid>
+    ensures { MatchSaid result (Reply (kit_of R.Element R.PartialEq) (codes "no call") (slot session.now) (said call)) (λ s. Reply (kit_of R.Element R.PartialEq) (string_bytes s) (slot session.now) (said call)) }
 {
-    let Some(point) = elements::<R>(heap, point)? else {
-        return no_call(heap);
-    };
-    let Some(mut buffer) = elements::<R>(heap, buffer)? else {
-        return no_call(heap);
-    };
-    weights(heap, &point, &mut buffer)
-}
-
-fn table_text<R: Element + PartialEq>(
-    heap: Global,
-    layout: &JaggedLayout,
-    row: &[usize],
-    column: &[usize],
-    cells: &[usize],
-) -> Result<String, AllocError>
-    ensures { IfOk result (λ s. Given (kit_of R.Element R.PartialEq) (string_bytes s) row.now (λ x. Given (kit_of R.Element R.PartialEq) (string_bytes s) column.now (λ y. Given (kit_of R.Element R.PartialEq) (string_bytes s) cells.now (Tabled (kit_of R.Element R.PartialEq) (string_bytes s) (shape layout.now) x y)))) }
-{
-    let Some(row) = elements::<R>(heap, row)? else {
-        return no_call(heap);
-    };
-    let Some(column) = elements::<R>(heap, column)? else {
-        return no_call(heap);
-    };
-    let Some(mut buffer) = elements::<R>(heap, cells)? else {
-        return no_call(heap);
-    };
-    tabled(heap, layout, &row, &column, &mut buffer)
-}
-
-fn value_text<R: Element + PartialEq>(
-    heap: Global,
-    layout: &JaggedLayout,
-    row: &[usize],
-    column: &[usize],
-    cells: &[usize],
-) -> Result<String, AllocError>
-    ensures { IfOk result (λ s. Given (kit_of R.Element R.PartialEq) (string_bytes s) row.now (λ x. Given (kit_of R.Element R.PartialEq) (string_bytes s) column.now (λ y. Given (kit_of R.Element R.PartialEq) (string_bytes s) cells.now (Evaluated (kit_of R.Element R.PartialEq) (string_bytes s) (shape layout.now) x y)))) }
-{
-    let Some(row) = elements::<R>(heap, row)? else {
-        return no_call(heap);
-    };
-    let Some(column) = elements::<R>(heap, column)? else {
-        return no_call(heap);
-    };
-    let Some(dense) = elements::<R>(heap, cells)? else {
-        return no_call(heap);
-    };
-    evaluated(heap, layout, &row, &column, &dense)
+    match call {
+        Call::EqualityPrefix { point, buffer } => {
+            let point = elements::<R>(heap, &point)?;
+            let mut buffer = elements::<R>(heap, &buffer)?;
+            Ok(weights(heap, &point, &mut buffer)?)
+        }
+        Call::Table { asked } => {
+            let layout = session.held(asked.name.as_str());
+            let Elements {
+                row,
+                column,
+                mut cells,
+            } = asked.elements::<R>(heap)?;
+            Ok(tabled(heap, &layout, &JaggedPoint::new(&row, &column), &mut cells)?)
+        }
+        Call::Evaluate { asked } => {
+            let layout = session.held(asked.name.as_str());
+            let Elements { row, column, cells } = asked.elements::<R>(heap)?;
+            Ok(evaluated(heap, &layout, &JaggedPoint::new(&row, &column), &cells)?)
+        }
+    }
 }

@@ -1,86 +1,65 @@
 // What the words of a line say of a call of the selector.
-ghost use Rattle.std.specs.Prelude.{◌≡◌, IfOk};
-ghost use Rattle.std.specs.Option.{option_map};
+ghost use Rattle.std.specs.Prelude.{◌≡◌};
 ghost use Rattle.words.specs.Cuts.{texts};
+ghost use Rattle.words.specs.Said.{Says};
 ghost use Rattle.script_selector.specs.Calls.{said, said_at, asked_by, prefix_says, asked_says, call_says, meaning};
 
 use crate::call::{Asked, Call};
 use script::{Kind, ring_kind};
-use std::alloc::{AllocError, Global};
-use words::{list, name, says};
+use std::alloc::Global;
+use words::{Unsaid, list, name, says};
 
 // The call that the words of a line say, and its ring kind.
-pub(crate) fn parse(heap: Global, words: &[&[u8]]) -> Result<Option<(Kind, Call)>, AllocError>
-    ensures { IfOk result (λ o. option_map said_at o ≡ meaning (texts words.now)) }
+#[tactic(auto, unfolding(crate::specs::Calls::meaning))]
+pub(crate) fn parse(heap: Global, words: &[&[u8]]) -> Result<(Kind, Call), Unsaid>
+    ensures { Says said_at (meaning (texts words.now)) result }
 {
-    if words.len() < 2 {
-        return Ok(None);
-    }
-    let Some(kind) = ring_kind(words[1]) else {
-        return Ok(None);
+    let [name, kind, arguments @ ..] = words else {
+        return Err(Unsaid::Nothing);
     };
-    match call_of(heap, words[0], &words[2..])? {
-        Some(call) => Ok(Some((kind, call))),
-        None => Ok(None),
-    }
+    let kind = ring_kind(kind).ok_or(Unsaid::Nothing)?;
+    Ok((kind, call_of(heap, name, arguments)?))
 }
 
-fn call_of(heap: Global, name: &[u8], arguments: &[&[u8]]) -> Result<Option<Call>, AllocError>
-    ensures { IfOk result (λ o. option_map said o ≡ call_says name.now (texts arguments.now)) }
+fn call_of(heap: Global, name: &[u8], arguments: &[&[u8]]) -> Result<Call, Unsaid>
+    ensures { Says said (call_says name.now (texts arguments.now)) result }
 {
     if says(name, "equality_prefix") {
         return prefix_call(heap, arguments);
     }
-    let Some(asked) = asked_of(heap, arguments)? else {
-        return Ok(None);
-    };
+    let asked = asked_of(heap, arguments)?;
     if says(name, "table") {
-        return Ok(Some(Call::Table { asked }));
+        Ok(Call::Table { asked })
+    } else if says(name, "evaluate") {
+        Ok(Call::Evaluate { asked })
+    } else {
+        Err(Unsaid::Nothing)
     }
-    if says(name, "evaluate") {
-        return Ok(Some(Call::Evaluate { asked }));
-    }
-    Ok(None)
 }
 
-fn prefix_call(heap: Global, arguments: &[&[u8]]) -> Result<Option<Call>, AllocError>
-    ensures { IfOk result (λ o. option_map said o ≡ prefix_says (texts arguments.now)) }
+fn prefix_call(heap: Global, arguments: &[&[u8]]) -> Result<Call, Unsaid>
+    ensures { Says said (prefix_says (texts arguments.now)) result }
 {
-    if arguments.len() != 2 {
-        return Ok(None);
-    }
-    let Some(point) = list(heap, arguments[0])? else {
-        return Ok(None);
+    let [point, buffer] = arguments else {
+        return Err(Unsaid::Nothing);
     };
-    let Some(buffer) = list(heap, arguments[1])? else {
-        return Ok(None);
-    };
-    Ok(Some(Call::EqualityPrefix { point, buffer }))
+    Ok(Call::EqualityPrefix {
+        point: list(heap, point)?,
+        buffer: list(heap, buffer)?,
+    })
 }
 
 // A slot's name, a point's rows and columns, and cells.
-fn asked_of(heap: Global, arguments: &[&[u8]]) -> Result<Option<Asked>, AllocError>
-    ensures { IfOk result (λ o. option_map asked_by o ≡ asked_says (texts arguments.now)) }
+fn asked_of(heap: Global, arguments: &[&[u8]]) -> Result<Asked, Unsaid>
+    ensures { Says asked_by (asked_says (texts arguments.now)) result }
 {
-    if arguments.len() != 4 {
-        return Ok(None);
-    }
-    let Some(name) = name(heap, arguments[0])? else {
-        return Ok(None);
+    let [slot, row, column, cells] = arguments else {
+        return Err(Unsaid::Nothing);
     };
-    let Some(row) = list(heap, arguments[1])? else {
-        return Ok(None);
-    };
-    let Some(column) = list(heap, arguments[2])? else {
-        return Ok(None);
-    };
-    let Some(cells) = list(heap, arguments[3])? else {
-        return Ok(None);
-    };
-    Ok(Some(Asked {
-        name,
-        row,
-        column,
-        cells,
-    }))
+    Ok(Asked {
+        name: name(heap, slot)?,
+        row: list(heap, row)?,
+        column: list(heap, column)?,
+        cells: list(heap, cells)?,
+    })
 }

@@ -3,6 +3,7 @@
 
 mod answering;
 mod call;
+mod cells;
 mod fault;
 mod grammar;
 mod reply;

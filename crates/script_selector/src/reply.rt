@@ -1,11 +1,12 @@
 // Makes the calls on cells, at any ring kind.
 ghost use Rattle.std.specs.Prelude.{◌≡◌, IfOk, string_bytes};
 ghost use Rattle.layout.specs.Layout.{shape};
+ghost use Rattle.script.specs.Kits.{kit_of};
 ghost use Rattle.script_selector.specs.Replies.{Weights, Tabled, Evaluated};
 
 use crate::fault::fault_text;
 use layout::JaggedLayout;
-use script::{Element, cell_text, cells_text};
+use script::{Element, cells_text};
 use selector::{JaggedPoint, equality_prefix, evaluate, table};
 use std::alloc::{AllocError, Global};
 
@@ -19,26 +20,22 @@ pub(crate) fn weights<R: Element + PartialEq>(
 {
     let written = equality_prefix(point, buffer);
     let cells = cells_text(heap, buffer)?;
-    let text = format!(in heap; "ok written={written} cells={cells}")?;
-    Ok(text)
+    format!(in heap; "ok written={written} cells={cells}")
 }
 
 // Writes the selector's table into a buffer, and tells it.
 pub(crate) fn tabled<'a, R: Element + PartialEq>(
     heap: Global,
     layout: &JaggedLayout,
-    row: &'a [R],
-    column: &'a [R],
+    point: &JaggedPoint<'a, R>,
     buffer: &mut [R],
 ) -> Result<String, AllocError>
-    ensures { IfOk result (λ s. Tabled (kit_of R.Element R.PartialEq) (string_bytes s) (shape layout.now) row.now column.now buffer.old) }
+    ensures { IfOk result (λ s. Tabled (kit_of R.Element R.PartialEq) (string_bytes s) (shape layout.now) point.now.row.now point.now.column.now buffer.old) }
 {
-    let point = JaggedPoint::new(row, column);
-    match table(layout, &point, buffer) {
+    match table(layout, point, buffer) {
         Ok(()) => {
             let cells = cells_text(heap, buffer)?;
-            let text = format!(in heap; "ok cells={cells}")?;
-            Ok(text)
+            format!(in heap; "ok cells={cells}")
         }
         Err(fault) => fault_text(heap, &fault),
     }
@@ -48,19 +45,13 @@ pub(crate) fn tabled<'a, R: Element + PartialEq>(
 pub(crate) fn evaluated<'a, R: Element + PartialEq>(
     heap: Global,
     layout: &JaggedLayout,
-    row: &'a [R],
-    column: &'a [R],
+    point: &JaggedPoint<'a, R>,
     dense: &[R],
 ) -> Result<String, AllocError>
-    ensures { IfOk result (λ s. Evaluated (kit_of R.Element R.PartialEq) (string_bytes s) (shape layout.now) row.now column.now dense.now) }
+    ensures { IfOk result (λ s. Evaluated (kit_of R.Element R.PartialEq) (string_bytes s) (shape layout.now) point.now.row.now point.now.column.now dense.now) }
 {
-    let point = JaggedPoint::new(row, column);
-    match evaluate(layout, &point, dense) {
-        Ok(element) => {
-            let cell = cell_text(heap, element)?;
-            let text = format!(in heap; "ok element={cell}")?;
-            Ok(text)
-        }
+    match evaluate(layout, point, dense) {
+        Ok(element) => format!(in heap; "ok element={element}"),
         Err(fault) => fault_text(heap, &fault),
     }
 }
