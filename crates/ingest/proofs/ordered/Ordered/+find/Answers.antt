@@ -6,9 +6,6 @@ use Rattle.ingest.specs.Walks.{run_of}
 use Rattle.ingest.proofs.Yields.{leaves_leaf, leaves_chunk, leaves_long, run_le, run_more}
 use Rattle.ingest.proofs.ordered.Ordered.+find.Goals as goal
 
-pub overflow_add-part-end : goal.overflow_add-part-end
-overflow_add-part-end t c = let s = c.args.self.now.sound c.args.record c.in-Chunked.from c.in-Chunked.count c.requires.within c.in-Chunked.is in omega arith
-
 pub find-requires : goal.find-requires
 find-requires t c =
     let recs = c.args.self.now.records.now in
