@@ -6,7 +6,7 @@ pub mod Passings
 pub mod Pieces
 pub mod Placed
 pub mod Related
-pub mod Runs
+pub mod Rooms
 pub mod Tall
 pub mod Told
 pub mod Walks

@@ -12,11 +12,11 @@ use Rattle.ingest.specs.Leaves.{checks_at}
 use Rattle.ingest.specs.Order.{wrong_record}
 use Rattle.ingest.specs.Piece.{tall_check, piece_height_checks, piece_checks}
 use Rattle.ingest.specs.Reading.{passed_up_check}
-use Rattle.ingest.specs.Rows.{rows_of, rows_at, Sits}
+use Rattle.ingest.specs.Rows.{found_rows, rows_of, rows_at, Sits}
 use Rattle.ingest.specs.Table.{height_of, leaves_of}
 use Rattle.ingest.proofs.Orders.{order_goes, sources_present}
 use Rattle.ingest.proofs.Passings.{down_passed}
-use Rattle.ingest.proofs.Placed.{heights_count, leaves_sit, no_some, rows_long}
+use Rattle.ingest.proofs.Placed.{heights_count, leaves_sit, no_some, rows_long, run_rows}
 use Rattle.ingest.proofs.Yields.{leaves_long, one_run}
 use Rattle.ingest.specs.Walks.{run_of}
 use Rattle.std.specs.List.{All}
@@ -45,24 +45,25 @@ pub piece_goes : (t : List Record) (column cells words room : ℕ) → wrong_rec
 piece_goes t column cells words room none high =
     order_goes t 1 (tall_check t column ∷ (map passed_up_check (checks_at cells words column t 0) ++ (room_check (height_of t 0) room ∷ []))) tt none ∙ cond-false _ _ _ high
 
--- what an accepted piece tells of its table, and of the records that were checked
-pub record Brought (K : Operations) (cells : List K.Value) (words : List ℕ) (t o : List Record) (column n m room : ℕ) : Type 0 where
+-- what an accepted piece tells of its table, and of the records that were checked, once their leaves are found
+pub record Brought (K : Operations) (cells : List K.Value) (words : List ℕ) (t o : List Record) (leaves : List ℕ) (column n m room : ℕ) : Type 0 where
   pub passed : Passed (piece_checks t column n m room)
-  pub sits : All (Sits n m o) (run_of (leaves_of o) 0 1)
-  pub rows_are : run_of (rows_of K cells words o) 0 1 ≡ rows_at K cells words t 0
-  pub tall : length (run_of (rows_of K cells words o) 0 1) ≡ height_of t 0
+  pub sits : All (Sits n m o) leaves
+  pub rows_are : found_rows K cells words o leaves ≡ rows_at K cells words t 0
+  pub tall : length (found_rows K cells words o leaves) ≡ height_of t 0
   pub fits : height_of t 0 ≤ room
 
-pub brought : {A : Type 0} (K : Operations) (cells : List K.Value) (words : List ℕ) (t o : List Record) (column n m n-told m-told room : ℕ) (r : Result A JaggedIngestError) (x : A) → outcome r ≡ verdict (piece_checks t column n-told m-told room) tt → r ≡ Ok x → o ≡ t → n-told ≡ n → m-told ≡ m → Brought K cells words t o column n m room
-brought K cells words t o column n m n-told m-told room r x answer is same n-same m-same =
+pub brought : {A : Type 0} (K : Operations) (cells : List K.Value) (words : List ℕ) (t o : List Record) (leaves : List ℕ) (column n m n-told m-told room s-told : ℕ) (r : Result A JaggedIngestError) (x : A) → outcome r ≡ verdict (piece_checks t column n-told m-told room) tt → r ≡ Ok x → o ≡ t → s-told ≡ 1 → n-told ≡ n → m-told ≡ m → leaves ≡ run_of (leaves_of o) 0 s-told → Brought K cells words t o leaves column n m room
+brought K cells words t o leaves column n m n-told m-told room s-told r x answer is same s-same n-same m-same found-are =
     let p-told = passed_from_ok (piece_checks t column n-told m-told room) tt tt (sym answer ∙ ap outcome is) in
     let p = subst (λ i. Passed (piece_checks t column i m room)) n-same (subst (λ i. Passed (piece_checks t column n-told i room)) m-same p-told) in
     let present = sources_present t 1 (piece_ordered t column n m room p) in
-    let rows_are = one_run (rows_of K cells words t) 0 (omega (arith, rows_long K cells words t)) in
-    subst (λ u. Brought K cells words t u column n m room) (sym same)
+    let are = found-are ∙ ap (λ u. run_of (leaves_of u) 0 s-told) same ∙ ap (run_of (leaves_of t) 0) s-same in
+    let rows_are = ap (found_rows K cells words t) are ∙ sym (run_rows K cells words t 1) ∙ one_run (rows_of K cells words t) 0 (omega (arith, rows_long K cells words t)) in
+    subst (λ u. Brought K cells words t u leaves column n m room) (sym same)
     (record {
       passed = p;
-      sits = piece_sits t column n m room p;
+      sits = subst (All (Sits n m t)) (sym are) (piece_sits t column n m room p);
       rows_are = rows_are;
       tall = ap length rows_are ∙ heights_count K cells words t 0;
       fits = piece_room t column n m room p;

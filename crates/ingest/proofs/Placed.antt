@@ -3,13 +3,14 @@ use Rattle.std.proofs.Common.{◌≡◌, ℕ, zero, suc, ◌+◌, ◌-◌, ◌<�
 use Rattle.std.proofs.lemmas.List.{append_assoc, ext_get_or, get_or_append_left, get_or-append_right, get_or-take, length-append, length-take-le, take-take}
 use Rattle.std.proofs.lemmas.List.Sums.{sum_by-cons}
 use Rattle.std.proofs.lemmas.Bool.{both_ways, eqb-true, lt-ltb, ltb-false, not-false}
-use Rattle.ring.specs.Checks.{Passed, verdict}
+use Rattle.ring.specs.Checks.{Check, Passed, verdict}
 use Rattle.ring.specs.Operations.{Operations}
 use Rattle.ring.proofs.Verdicts.{passed-at, passed_from_ok, passed_left, passed_right}
 use Rattle.layout.specs.Shape.{Shape, columns, height, start, area, capacity}
 use Rattle.layout.proofs.Shapes.{area-start}
 use Rattle.ring.specs.Bytes.{over}
 use Rattle.ingest.specs.declared.fault.JaggedIngestError.{JaggedIngestError}
+use Rattle.ingest.specs.declared.fault.LeafError.{LeafError}
 use Rattle.ingest.specs.declared.record.Record.{Record}
 use Rattle.ingest.specs.declared.record.Record.TheVariants.{Dense, Interleaved, Bits, Chunked}
 use Rattle.ingest.specs.Leaves.{leaf_checks, checks_of, checks_at, reach}
@@ -22,7 +23,7 @@ use Rattle.ingest.specs.Charges.{outcome}
 use Rattle.ingest.specs.Vector.{buffer_checks}
 use Rattle.ingest.proofs.Orders.{sources_present}
 use Rattle.ingest.proofs.Passings.{down_passed}
-use Rattle.ingest.proofs.Related.{Both, both_at, both_take, by_leaves, related}
+use Rattle.ingest.proofs.Related.{Both, both_at, both_take, by_leaves, related, run_by_leaves}
 use Rattle.ingest.specs.Walks.{run_of}
 use Rattle.std.specs.List.{All, flat_map}
 use Rattle.std.proofs.lemmas.List.Elements.{All-append, All-cons, All-nil}
@@ -41,6 +42,11 @@ module _ (K : Operations) (cells : List K.Value) (words : List ℕ) (t : List Re
   pub rows_at_leaves : (i : ℕ) → rows_at K cells words t i ≡ found_rows K cells words t (leaves_at t i)
   unfolding rows_of
   rows_at_leaves i = by_leaves (λ _ r. leaf_rows K cells words r) t i
+
+  -- so are those of the first records
+  pub run_rows : (s : ℕ) → run_of (rows_of K cells words t) 0 s ≡ found_rows K cells words t (run_of (leaves_of t) 0 s)
+  unfolding rows_of
+  run_rows s = run_by_leaves (λ _ r. leaf_rows K cells words r) t s
 
   abbrev Tall : List K.Value → ℕ → Type 0
   Tall rows n = length rows ≡ n
@@ -108,16 +114,20 @@ module _ (cells words : ℕ) (t : List Record) where
   unfolding checks_of
   checks_by_leaves column i = by_leaves (leaf_checks cells words column) t i
 
-  checked_sit : (column : ℕ) (ns : List ℕ) → Passed (flat_map (λ n. leaf_checks cells words column n (record_at t n)) ns) → All (Sits cells words t) ns
-  checked_sit column [] p = All-nil (Sits cells words t)
-  checked_sit column (n ∷ ns) p =
-      let here = leaf_checks cells words column n (record_at t n) in
-      let rest = flat_map (λ k. leaf_checks cells words column k (record_at t k)) ns in
-      All-cons (Sits cells words t) n ns (within_from_passed cells words column n (record_at t n) (passed_left here rest p)) (checked_sit column ns (passed_right here rest p))
+  checked_flat : (xs : List (List (Check LeafError))) (ys : List (List ℕ)) → Both (λ cs ls. Passed cs → All (Sits cells words t) ls) xs ys → Passed (flat xs) → All (Sits cells words t) (flat ys)
+  checked_flat [] [] b p = All-nil (Sits cells words t)
+  checked_flat [] (y ∷ ys) b p = absurd b
+  checked_flat (x ∷ xs) [] b p = absurd b
+  checked_flat (x ∷ xs) (y ∷ ys) b p = All-append (Sits cells words t) y (flat ys) (b.0 (passed_left x (flat xs) p)) (checked_flat xs ys b.1 (passed_right x (flat xs) p))
 
   -- the leaves of a record whose checks pass
   pub leaves_sit : (column i : ℕ) → Passed (checks_at cells words column t i) → All (Sits cells words t) (leaves_at t i)
-  leaves_sit column i p = checked_sit column (leaves_at t i) (subst Passed (checks_by_leaves column i) p)
+  unfolding checks_of leaves_of
+  leaves_sit column i =
+      both_at (λ cs ls. Passed cs → All (Sits cells words t) ls) [] [] (λ _. All-nil (Sits cells words t)) i (checks_of cells words column t) (leaves_of t)
+      (related (λ cs ls. Passed cs → All (Sits cells words t) ls) (leaf_checks cells words column) (λ j _. j ∷ []) flat flat t
+      (λ j h p. All-cons (Sits cells words t) j [] (h, within_from_passed cells words column j (record_at t j) p) (All-nil (Sits cells words t)))
+      checked_flat)
 
   columns_sit : (s : ℕ) → s ≤ length t → ((y : ℕ) → y < s → All (Sits cells words t) (leaves_at t y)) → All (Sits cells words t) (run_of (leaves_of t) 0 s)
   columns_sit zero h each = All-nil (Sits cells words t)
@@ -162,23 +172,24 @@ accepted S t sources n m n-told m-told buffer r x answer is n-same m-same =
       room = ltb-false buffer (capacity S) (passed_right (columns_checks S t n m) (buffer_checks S buffer) p.1.1).0;
     }
 
--- and of the records that were checked
-pub record Ready (K : Operations) (cells : List K.Value) (words : List ℕ) (S : Shape) (t o : List Record) (sources n m buffer : ℕ) : Type 0 where
+-- and of the records that were checked, once their leaves are found
+pub record Ready (K : Operations) (cells : List K.Value) (words : List ℕ) (S : Shape) (t o : List Record) (leaves : List ℕ) (sources n m buffer : ℕ) : Type 0 where
   pub ok : Accepted S t sources n m buffer
-  pub sits : All (Sits n m o) (run_of (leaves_of o) 0 sources)
-  pub rows_are : run_of (rows_of K cells words o) 0 sources ≡ run_of (rows_of K cells words t) 0 (columns S)
+  pub sits : All (Sits n m o) leaves
+  pub rows_are : found_rows K cells words o leaves ≡ run_of (rows_of K cells words t) 0 (columns S)
   pub fill : length (run_of (rows_of K cells words t) 0 (columns S)) ≡ area S
   pub placed : (old : List K.Value) → RowsPlaced K S cells words t (over (assembled K S cells words t) old)
 
-pub ready : {A : Type 0} (K : Operations) (cells : List K.Value) (words : List ℕ) (S : Shape) (t o : List Record) (sources n m n-told m-told buffer : ℕ) (r : Result A JaggedIngestError) (x : A) → outcome r ≡ verdict (read_checks S t sources n-told m-told buffer) tt → r ≡ Ok x → o ≡ t → n-told ≡ n → m-told ≡ m → Ready K cells words S t o sources n m buffer
-ready K cells words S t o sources n m n-told m-told buffer r x answer is same n-same m-same =
+pub ready : {A : Type 0} (K : Operations) (cells : List K.Value) (words : List ℕ) (S : Shape) (t o : List Record) (leaves : List ℕ) (sources n m n-told m-told buffer s-told : ℕ) (r : Result A JaggedIngestError) (x : A) → outcome r ≡ verdict (read_checks S t sources n-told m-told buffer) tt → r ≡ Ok x → o ≡ t → s-told ≡ sources → n-told ≡ n → m-told ≡ m → leaves ≡ run_of (leaves_of o) 0 s-told → Ready K cells words S t o leaves sources n m buffer
+ready K cells words S t o leaves sources n m n-told m-told buffer s-told r x answer is same s-same n-same m-same found-are =
     let ok = accepted S t sources n m n-told m-told buffer r x answer is n-same m-same in
     let heights = heights_same n m t S ok.present ok.passed in
-    subst (λ u. Ready K cells words S t u sources n m buffer) (sym same)
+    let are = found-are ∙ ap (λ u. run_of (leaves_of u) 0 s-told) same ∙ ap (run_of (leaves_of t) 0) (s-same ∙ ok.same) in
+    subst (λ u. Ready K cells words S t u leaves sources n m buffer) (sym same)
     (record {
       ok = ok;
-      sits = subst (λ s. All (Sits n m t) (run_of (leaves_of t) 0 s)) (sym ok.same) (all_sit n m t S ok.present ok.passed);
-      rows_are = ap (run_of (rows_of K cells words t) 0) ok.same;
+      sits = subst (All (Sits n m t)) (sym are) (all_sit n m t S ok.present ok.passed);
+      rows_are = ap (found_rows K cells words t) are ∙ sym (run_rows K cells words t (columns S));
       fill = rows_fill K cells words t S ok.present heights;
       placed = rows_placed K cells words t S ok.present heights;
     })

@@ -8,6 +8,7 @@ use Rattle.ingest.specs.declared.record.Record.{Record}
 use Rattle.ingest.specs.declared.record.Record.TheVariants.{Dense, Interleaved, Bits, Chunked}
 use Rattle.ingest.specs.Order.{record_at}
 use Rattle.ingest.specs.Table.{yielded, yields, flat, leaves_of, leaves_at}
+use Rattle.ingest.specs.Walks.{run_of}
 
 module _ {A B : Type 0} (Rel : A → B → Type 0) where
   -- lists of one length, related element by element
@@ -70,11 +71,16 @@ module _ {A : Type 0} (f : ℕ → Record → List A) (t : List Record) where
   by_leaves_flat (x ∷ xs) [] b = absurd b
   by_leaves_flat (x ∷ xs) (y ∷ ys) b = ap (λ l. l ++ flat xs) b.0 ∙ ap (λ l. of_leaves y ++ l) (by_leaves_flat xs ys b.1) ∙ sym (flat_map-append (λ n. f n (record_at t n)) y (flat ys))
 
-  pub by_leaves : (i : ℕ) → get_or (yields f flat 0 t) i [] ≡ flat_map (λ n. f n (record_at t n)) (leaves_at t i)
+  all_by_leaves : Both (λ x y. x ≡ of_leaves y) (yields f flat 0 t) (leaves_of t)
   unfolding leaves_of
-  by_leaves i =
-      both_at (λ x y. x ≡ of_leaves y) [] [] refl i (yields f flat 0 t) (leaves_of t)
-      (related (λ x y. x ≡ of_leaves y) f (λ n _. n ∷ []) flat flat t (λ n h. sym (append-nil (f n (record_at t n)))) by_leaves_flat)
+  all_by_leaves = related (λ x y. x ≡ of_leaves y) f (λ n _. n ∷ []) flat flat t (λ n h. sym (append-nil (f n (record_at t n)))) by_leaves_flat
+
+  pub by_leaves : (i : ℕ) → get_or (yields f flat 0 t) i [] ≡ flat_map (λ n. f n (record_at t n)) (leaves_at t i)
+  by_leaves i = both_at (λ x y. x ≡ of_leaves y) [] [] refl i (yields f flat 0 t) (leaves_of t) all_by_leaves
+
+  -- so is what the first records have
+  pub run_by_leaves : (s : ℕ) → run_of (yields f flat 0 t) 0 s ≡ flat_map (λ n. f n (record_at t n)) (run_of (leaves_of t) 0 s)
+  run_by_leaves s = by_leaves_flat (take s (yields f flat 0 t)) (take s (leaves_of t)) (both_take (λ x y. x ≡ of_leaves y) s (yields f flat 0 t) (leaves_of t) all_by_leaves)
 
 -- so is what a chunk folds of its parts, where that can be folded leaf by leaf
 module _ {A : Type 0} (f : A → A → A) (none : A) (P : A → Type 0) (g : Record → A)

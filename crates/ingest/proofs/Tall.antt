@@ -1,29 +1,44 @@
--- Heights and passes by the leaves of a record. Assumes nothing.
-use Rattle.std.proofs.Common.{◌≡◌, ℕ, zero, suc, ◌+◌, ◌<◌, ◌≤◌, max, ltb, List, [], ◌∷◌, length, fold, sum, sym, refl, ap, ◌∙◌, ⊎_elim, arith}
-use Rattle.std.specs.List.{sum_by}
+-- A chunk's height, part by part, and passes by the leaves of a record. Assumes nothing.
+use Rattle.std.proofs.Common.{◌≡◌, ℕ, zero, suc, ◌+◌, ◌<◌, ◌≤◌, max, ltb, List, [], ◌∷◌, length, take, drop, fold, sum, sym, refl, ap, ◌∙◌, ⊎_elim, arith}
 use Rattle.std.proofs.lemmas.Bool.{cond-true, cond-false, lt-ltb, le-ltb, cases_lt}
-use Rattle.std.proofs.lemmas.List.Sums.{sum_by-cons}
+use Rattle.std.proofs.lemmas.List.{get_or-drop, length-drop, take-take}
+use Rattle.std.proofs.lemmas.List.Sums.{fold_more, sum_by-take-le}
 use Rattle.ingest.specs.declared.record.ConversionPass.{ConversionPass}
 use Rattle.ingest.specs.declared.record.ConversionPass.TheVariants.{Shared, Copied, Gathered, Widened}
 use Rattle.ingest.specs.declared.record.Record.{Record}
+use Rattle.ingest.specs.declared.record.Record.TheVariants.{Chunked}
 use Rattle.ingest.specs.Order.{record_at}
 use Rattle.ingest.specs.Passes.{rank_of, higher_of}
 use Rattle.ingest.specs.Table.{Sound, leaf_height, heights_of, height_of, leaf_pass, passes_of, pass_of, leaves_at}
 use Rattle.ingest.proofs.Parts.{pass_converted}
 use Rattle.ingest.proofs.Related.{folded}
-use Rattle.ingest.proofs.Yields.{length-yields}
+use Rattle.ingest.proofs.Yields.{length-yields, yield_leaf, yield_chunk}
 
 pub heights_long : (t : List Record) → length (heights_of t) ≡ length t
 unfolding heights_of
 heights_long t = length-yields (λ _ r. leaf_height r) sum 0 t
 
-sum_joins : (a : ℕ) (xs : List ℕ) → a + sum xs ≡ fold (λ b x. b + x) a xs
-sum_joins a [] = omega arith
-sum_joins a (x ∷ xs) = omega (arith, sum_by-cons (λ n. n) x xs, sum_joins (a + x) xs)
+module _ (t : List Record) where
+  pub height_leaf : (i : ℕ) → i < length t → ((from count : ℕ) → record_at t i ≡ Chunked from count → ⊥) → height_of t i ≡ leaf_height (record_at t i)
+  unfolding heights_of
+  height_leaf i h no_Chunk = yield_leaf (λ _ r. leaf_height r) sum t i 0 h no_Chunk
 
-pub height_by_leaves : (t : List Record) (i : ℕ) → sum_by (λ n. leaf_height (record_at t n)) (leaves_at t i) ≡ height_of t i
-unfolding heights_of
-height_by_leaves t i = let none : 0 + height_of t i ≡ height_of t i = omega arith in folded (λ a x. a + x) 0 (λ _. Unit {0}) leaf_height (λ _ _ _. tt) (λ a xs _. sum_joins a xs) t i 0 tt ∙ none
+  pub height_chunk : (i from count : ℕ) → i < length t → record_at t i ≡ Chunked from count → i < from → height_of t i ≡ sum (take count (drop from (heights_of t)))
+  unfolding heights_of
+  height_chunk i from count h e later = yield_chunk (λ _ r. leaf_height r) sum t i 0 h from count e later
+
+  -- part k of a run, and those before it
+  module _ (from k p : ℕ) (at : from + k ≡ p) (h : p < length t) where
+    pub sum_more : sum (take (k + 1) (drop from (heights_of t))) ≡ sum (take k (drop from (heights_of t))) + height_of t p
+    sum_more =
+        fold_more (λ a x. a + x) 0 (drop from (heights_of t)) k 0 (omega (arith, length-drop from (heights_of t), heights_long t))
+        ∙ ap (λ x. sum (take k (drop from (heights_of t))) + x) (get_or-drop from (heights_of t) k 0 ∙ ap (height_of t) at)
+
+    -- they have no more rows than the chunk
+    pub part_le : (i count : ℕ) → height_of t i ≡ sum (take count (drop from (heights_of t))) → k < count → sum (take k (drop from (heights_of t))) + height_of t p ≤ height_of t i
+    part_le i count e below =
+        let run = take count (drop from (heights_of t)) in
+        omega (arith, sum_more, sum_by-take-le (λ x. x) run (k + 1), ap sum (take-take (k + 1) count (drop from (heights_of t)) (omega arith)))
 
 pass_at_rank : ℕ → ConversionPass
 pass_at_rank zero = Shared

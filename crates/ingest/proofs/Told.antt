@@ -1,6 +1,5 @@
 -- What a fold over the leaves of one record tells. Assumes nothing.
-use Rattle.std.proofs.Common.{◌≡◌, ℕ, ◌+◌, ◌^◌, ◌<◌, false, leb, List, [], ◌∷◌, length, None, Ok, Err, Result, OnOk, sym, ap, ◌∙◌, subst, arith}
-use Rattle.std.specs.List.{sum_by}
+use Rattle.std.proofs.Common.{◌≡◌, ℕ, ◌^◌, ◌<◌, false, leb, List, [], ◌∷◌, length, None, Ok, Err, Result, OnOk, sym, ap, ◌∙◌, subst, arith}
 use Rattle.std.proofs.lemmas.Bool.{cond-false}
 use Rattle.ring.specs.Checks.{verdict, when}
 use Rattle.ring.proofs.Verdicts.{passed_from_ok}
@@ -14,11 +13,11 @@ use Rattle.ingest.specs.Leaves.{leaf_checks, checks_at}
 use Rattle.ingest.specs.Order.{order_check, record_at, wrong_record}
 use Rattle.ingest.proofs.Orders.{order_none}
 use Rattle.ingest.specs.Passes.{higher_of}
-use Rattle.ingest.specs.Table.{Sound, leaf_height, height_of, leaf_pass, pass_of, leaves_of, leaves_at}
+use Rattle.ingest.specs.Table.{Sound, leaf_pass, pass_of, leaves_of, leaves_at}
 use Rattle.ingest.specs.Walks.{Tries, TriesOver}
 use Rattle.ingest.proofs.Placed.{checks_by_leaves}
-use Rattle.ingest.proofs.Tall.{height_by_leaves, pass_by_leaves}
-use Rattle.ingest.proofs.Walks.{fitting, ok_same, tries_all, tries_checks, tries_sum}
+use Rattle.ingest.proofs.Tall.{pass_by_leaves}
+use Rattle.ingest.proofs.Walks.{fitting, ok_same, tries_all, tries_checks}
 use Rattle.ingest.proofs.Yields.{leaves_long, one_run}
 
 module _ {A E : Type 0} (step : A → ℕ → Record → Result A E → Type 0) (t : List Record) (i : ℕ) (h : i < length t) where
@@ -29,12 +28,6 @@ pub checks_told : (step : Unit {0} → ℕ → Record → Result (Unit {0}) Leaf
 checks_told step cells words column t i a r h w each =
     tries_checks step t (λ n. leaf_checks cells words column n (record_at t n)) each a (leaves_at t i) r (over_leaves step t i h a r w)
     ∙ ap (λ cs. verdict cs tt) (sym (checks_by_leaves cells words t column i))
-
-pub height_told : {E : Type 0} (fault : E) (step : ℕ → ℕ → Record → Result ℕ E → Type 0) (t : List Record) (i : ℕ) (r : Result ℕ E) → i < length t → TriesOver step t i 1 0 r → ((a n : ℕ) (m : Result ℕ E) → step a n (record_at t n) m → m ≡ fitting fault (a + leaf_height (record_at t n))) → r ≡ fitting fault (height_of t i)
-height_told fault step t i r h w each =
-    let all = tries_sum fault step t (λ n. leaf_height (record_at t n)) each 0 (leaves_at t i) r (omega arith) (over_leaves step t i h 0 r w) in
-    let same : 0 + sum_by (λ n. leaf_height (record_at t n)) (leaves_at t i) ≡ height_of t i = omega (arith, height_by_leaves t i) in
-    all ∙ ap (fitting fault) same
 
 pub pass_told : {E : Type 0} (step : ConversionPass → ℕ → Record → Result ConversionPass E → Type 0) (t : List Record) (sound : Sound t) (i : ℕ) (r : Result ConversionPass E) (p : ConversionPass) → i < length t → TriesOver step t i 1 Copied r → r ≡ Ok p → ((a : ConversionPass) (n : ℕ) (m : Result ConversionPass E) → step a n (record_at t n) m → m ≡ Ok (higher_of a (leaf_pass (record_at t n)))) → p ≡ pass_of t i
 pass_told {E} step t sound i r p h w is each =

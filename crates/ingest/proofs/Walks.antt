@@ -1,9 +1,8 @@
 -- Folds over the leaves of a run. Assumes nothing.
 use Rattle.std.proofs.Common.{◌≡◌, ℕ, ◌+◌, ◌^◌, ◌<◌, ◌≤◌, leb, List, [], ◌∷◌, ◌++◌, length, get_or, take, drop, ◌-◌, fold, Ok, Err, Result, MatchResult, sym, refl, ap, ◌∙◌, subst, ⊎_elim, arith}
-use Rattle.std.specs.List.{flat_map, sum_by}
+use Rattle.std.specs.List.{flat_map}
 use Rattle.std.proofs.lemmas.Result.{MatchResult-weaker}
 use Rattle.std.proofs.lemmas.Bool.{cond-true, cond-false, le-leb, lt-leb, cases_lt}
-use Rattle.std.proofs.lemmas.List.Sums.{sum_by-cons}
 use Rattle.ring.specs.Checks.{Check, verdict, when}
 use Rattle.ring.proofs.Verdicts.{passed_from_ok, verdict-passed, verdict_refused}
 use Rattle.ingest.specs.declared.record.Record.{Record}
@@ -52,25 +51,19 @@ tries_checks step t f each a (n ∷ ns) r h =
 abbrev pub fitting : {E : Type 0} → E → ℕ → Result ℕ E
 fitting e n = verdict (when (leb (2 ^ 64) n) e ∷ []) n
 
-fits : {E : Type 0} (e : E) (n : ℕ) → n < 2 ^ 64 → fitting e n ≡ Ok n
+pub fits : {E : Type 0} (e : E) (n : ℕ) → n < 2 ^ 64 → fitting e n ≡ Ok n
 fits e n h = cond-false _ _ _ (lt-leb (2 ^ 64) n h)
 
-too_much : {E : Type 0} (e : E) (n : ℕ) → 2 ^ 64 ≤ n → fitting e n ≡ Err e
+pub too_much : {E : Type 0} (e : E) (n : ℕ) → 2 ^ 64 ≤ n → fitting e n ≡ Err e
 too_much e n h = cond-true _ _ _ (le-leb (2 ^ 64) n h)
 
-pub tries_sum : {E : Type 0} (fault : E) (step : ℕ → ℕ → Record → Result ℕ E → Type 0) (t : List Record) (g : ℕ → ℕ) → ((a n : ℕ) (m : Result ℕ E) → step a n (record_at t n) m → m ≡ fitting fault (a + g n)) → (a : ℕ) (ns : List ℕ) (r : Result ℕ E) → a < 2 ^ 64 → Tries step t a ns r → r ≡ fitting fault (a + sum_by g ns)
-tries_sum fault step t g each a [] r small h = let none : a + sum_by g [] ≡ a = omega arith in h ∙ sym (fits fault a small) ∙ ap (fitting fault) (sym none)
-tries_sum {E} fault step t g each a (n ∷ ns) r small h =
-    let told = each a n h.0 h.1.0 in
+-- a sum that is no smaller than one that is refused
+pub refused_too : {E : Type 0} (fault e : E) (n m : ℕ) → fitting fault n ≡ Err e → n ≤ m → Err e ≡ fitting fault m
+refused_too {E} fault e n m told le =
     ⊎_elim
-    (λ low.
-    let on : MatchResult {E = E} (Ok (a + g n)) (λ b. Tries step t b ns r) (λ e. r ≡ Err e) = subst (λ m. MatchResult m (λ b. Tries step t b ns r) (λ e. r ≡ Err e)) (told ∙ fits fault (a + g n) low) h.1.1 in
-    let same : (a + g n) + sum_by g ns ≡ a + sum_by g (n ∷ ns) = omega (arith, sum_by-cons g n ns) in
-    tries_sum fault step t g each (a + g n) ns r low on ∙ ap (fitting fault) same)
-    (λ high.
-    let stopped : MatchResult {T = ℕ} (Err fault) (λ b. Tries step t b ns r) (λ e. r ≡ Err e) = subst (λ m. MatchResult m (λ b. Tries step t b ns r) (λ e. r ≡ Err e)) (told ∙ too_much fault (a + g n) high) h.1.1 in
-    stopped ∙ sym (too_much fault (a + sum_by g (n ∷ ns)) (omega (arith, sum_by-cons g n ns))))
-    (cases_lt (a + g n) (2 ^ 64))
+    (λ low. absurd (ok_err {E = E} n e (sym (fits fault n low) ∙ told)))
+    (λ high. sym told ∙ too_much fault n high ∙ sym (too_much fault m (omega arith)))
+    (cases_lt n (2 ^ 64))
 
 -- a leaf alone
 matched : {A E : Type 0} (m : Result A E) → MatchResult m (λ b. m ≡ Ok b) (λ e. m ≡ Err e)

@@ -2,14 +2,15 @@
 use Rattle.std.proofs.Common.{◌≡◌, ℕ, ◌+◌, ◌-◌, ◌*◌, ◌<◌, ◌≤◌, List, [], ◌++◌, map, length, get_or, take, drop, set, sym, ap, ◌∙◌, subst, ⊎_elim, arith}
 use Rattle.std.proofs.lemmas.Nat.{mul-le}
 use borrow.Rule.Slice.PartMut.{put_mid}
-use Rattle.std.specs.List.{range_with_len}
+use Rattle.std.specs.List.{range_with_len, flat_map}
 use Rattle.ring.specs.Bytes.{over}
 use Rattle.std.proofs.lemmas.List.FromFn.{fill_by_all, length-map-range_with_len}
-use Rattle.std.proofs.Math.Seq.{drop-append-add}
-use Rattle.std.proofs.lemmas.List.{append_assoc, append-nil, drop_all, drop-append-le, drop_at, drop-drop, drop-map, get_or-drop, get_or-set_same, get_or-set_other, get_or-take, length-append, length-drop, length-map, length-take-le, map-append, map-set, take_all, take-append-drop, take_at, take-map}
+use Rattle.std.proofs.lemmas.Grind.{flat_map-append}
+use Rattle.std.proofs.lemmas.List.{append_assoc, drop_at, drop-drop, drop-map, get_or-drop, get_or-set_same, get_or-set_other, get_or-take, flat_map_more, length-append, length-drop, length-map, length-take-le, map-append, map-set, take-append-drop, take_at, take-map, take_more}
 use Rattle.ring.specs.Operations.{Operations}
 use Rattle.ingest.specs.declared.record.Record.{Record}
-use Rattle.ingest.specs.Rows.{leaf_row, leaf_rows}
+use Rattle.ingest.specs.Order.{record_at}
+use Rattle.ingest.specs.Rows.{leaf_row, leaf_rows, found_rows}
 use Rattle.ingest.specs.Table.{leaf_height}
 use Rattle.std.proofs.lemmas.Bool.{cases_eq}
 
@@ -50,39 +51,23 @@ leaf_more f xs ys before here old at k was wrote e1 e2 =
     ∙ sym (append_assoc before here (drop (length before + length here) old))
     ∙ ap (λ n. (before ++ here) ++ drop n old) (sym (length-append before here))
 
+-- the leaves up to one of them and that one, and what is left after it
+flat_map-take : {A B : Type 0} (g : A → List B) (xs : List A) (k : ℕ) (d : A) → k < length xs → flat_map g (take (k + 1) xs) ≡ flat_map g (take k xs) ++ g (get_or xs k d)
+flat_map-take g xs k d h = ap (flat_map g) (take_more xs k d h) ∙ sym (flat_map_more g [] (take k xs) (get_or xs k d))
+
+flat_map_le : {A B : Type 0} (g : A → List B) (xs : List A) (k : ℕ) → length (flat_map g (take k xs)) ≤ length (flat_map g xs)
+flat_map_le g xs k = omega (arith, ap length (ap (flat_map g) (sym (take-append-drop k xs)) ∙ flat_map-append g (take k xs) (drop k xs)), length-append (flat_map g (take k xs)) (flat_map g (drop k xs)))
+
 module _ (K : Operations) (cells : List K.Value) (words : List ℕ) (t : List Record) where
   pub leaf_rows_long : (r : Record) → length (leaf_rows K cells words r) ≡ leaf_height r
   leaf_rows_long r = length-map-range_with_len (leaf_row K cells words r) 0 (leaf_height r)
 
--- a run that is written to the front of what is left, after the parts before it
-pub run_written : {A B : Type 0} (f : A → B) (xs ys : List A) (before here old : List B) (at k : ℕ) → map f xs ≡ over before old → at ≡ length before → map f ys ≡ over here (map f (take k (drop at xs))) → length here ≤ length (take k (drop at xs)) → map f (put_mid at k xs ys) ≡ over (before ++ here) old
-run_written f xs ys before here old at k was e wrote room =
-    let rest = map f (drop at xs) in
-    let front = sym (take-map f at xs) ∙ ap (take at) was ∙ take_at before (drop (length before) old) at (sym e) in
-    let left : rest ≡ drop (length before) old = sym (drop-map f at xs) ∙ ap (drop at) was ∙ drop_at before (drop (length before) old) at (sym e) in
-    let long : length here ≤ length (take k rest) = omega (arith, length-map (take k (drop at xs)) f, ap length (take-map f k (drop at xs))) in
-    map-append f (take at xs) (ys ++ drop k (drop at xs))
-    ∙ ap (λ l. map f (take at xs) ++ l) (map-append f ys (drop k (drop at xs)))
-    ∙ ap (λ l. l ++ (map f ys ++ map f (drop k (drop at xs)))) front
-    ∙ ap (λ l. before ++ (l ++ map f (drop k (drop at xs)))) (wrote ∙ ap (λ l. here ++ drop (length here) l) (sym (take-map f k (drop at xs))))
-    ∙ ap (λ l. before ++ ((here ++ drop (length here) (take k rest)) ++ l)) (sym (drop-map f k (drop at xs)))
-    ∙ ap (λ l. before ++ l) (append_assoc here (drop (length here) (take k rest)) (drop k rest))
-    ∙ ap (λ l. before ++ (here ++ l)) (sym (drop-append-le (length here) (take k rest) (drop k rest) long) ∙ ap (drop (length here)) (take-append-drop k rest ∙ left) ∙ drop-drop (length here) (length before) old)
-    ∙ sym (append_assoc before here (drop (length before + length here) old))
-    ∙ ap (λ n. (before ++ here) ++ drop n old) (sym (length-append before here))
+  -- leaf k of those that were found
+  module _ (numbers : List ℕ) (k : ℕ) (h : k < length numbers) where
+    pub found_more : found_rows K cells words t (take (k + 1) numbers) ≡ found_rows K cells words t (take k numbers) ++ leaf_rows K cells words (record_at t (get_or numbers k 0))
+    found_more = flat_map-take (λ m. leaf_rows K cells words (record_at t m)) numbers k 0 h
 
--- past its rows nothing changes
-pub run_kept : {A : Type 0} (xs ys : List A) (at k rows n : ℕ) → at + k ≡ length xs → ((m : ℕ) → rows ≤ m → drop m ys ≡ drop m (take k (drop at xs))) → at + rows ≤ n → drop n (put_mid at k xs ys) ≡ drop n xs
-run_kept xs ys at k rows n all kept past =
-    let front : length (take at xs) ≡ at = length-take-le at xs (omega arith) in
-    let split : length (take at xs) + (n - at) ≡ n = omega arith in
-    let none : drop k (drop at xs) ≡ [] = drop_all k (drop at xs) (omega (arith, length-drop at xs)) in
-    let back : at + (n - at) ≡ n = omega arith in
-    ap (λ m. drop m (put_mid at k xs ys)) (sym split)
-    ∙ drop-append-add (take at xs) (ys ++ drop k (drop at xs)) (n - at)
-    ∙ ap (λ l. drop (n - at) (ys ++ l)) none
-    ∙ ap (drop (n - at)) (append-nil ys)
-    ∙ kept (n - at) (omega arith)
-    ∙ ap (drop (n - at)) (take_all k (drop at xs) (omega (arith, length-drop at xs)))
-    ∙ drop-drop (n - at) at xs
-    ∙ ap (λ m. drop m xs) back
+    -- where there is room for all leaves, its rows end within it
+    pub leaf_ends : (at rows room : ℕ) → at ≡ length (found_rows K cells words t (take k numbers)) → rows ≡ leaf_height (record_at t (get_or numbers k 0)) → length (found_rows K cells words t numbers) ≤ room → at + rows ≤ room
+    leaf_ends at rows room start tall fits =
+        omega (arith, ap length found_more, length-append (found_rows K cells words t (take k numbers)) (leaf_rows K cells words (record_at t (get_or numbers k 0))), leaf_rows_long (record_at t (get_or numbers k 0)), flat_map_le (λ m. leaf_rows K cells words (record_at t m)) numbers (k + 1))

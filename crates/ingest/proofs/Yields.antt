@@ -1,6 +1,6 @@
 -- What one record yields, by what its parts yield. Assumes nothing.
 use Rattle.std.proofs.Common.{◌≡◌, ℕ, zero, suc, ◌+◌, ◌-◌, ◌<◌, ◌≤◌, List, [], ◌∷◌, ◌++◌, length, get_or, take, drop, sym, refl, ap, ◌∙◌, add-zero, arith}
-use Rattle.std.proofs.lemmas.List.{append_assoc, append-nil, drop-drop, drop_more, get_or-drop, get_or-take, flat_map_more, length-drop, length-take-le, take_more, take-take}
+use Rattle.std.proofs.lemmas.List.{append_assoc, append-nil, drop-drop, drop_more, get_or-drop, get_or-take, flat_map_more, length-append, length-drop, length-take-le, take_more, take-take}
 use Rattle.ingest.specs.declared.record.Record.{Record}
 use Rattle.ingest.specs.declared.record.Record.TheVariants.{Dense, Interleaved, Bits, Chunked}
 use Rattle.ingest.specs.Order.{record_at}
@@ -74,6 +74,12 @@ run_split ys from count k p at h present =
           ∙ ap (λ l. flat l ++ (get_or zs k [] ++ flat (drop (k + 1) zs))) (take-take k count (drop from ys) (omega arith))
           ∙ ap (λ x. run_of ys from k ++ (x ++ flat (drop (k + 1) zs))) (get_or-take count (drop from ys) k [] h ∙ get_or-drop from ys k [] ∙ ap (λ n. get_or ys n []) at),
     )
+
+-- a part and those before it are no longer than the run
+pub run_le : {A : Type 0} (ys : List (List A)) (from count k p : ℕ) → from + k ≡ p → k < count → from + count ≤ length ys → length (run_of ys from k) + length (get_or ys p []) ≤ length (run_of ys from count)
+run_le ys from count k p at h present =
+    let split = run_split ys from count k p at h present in
+    omega (arith, ap length split.1, length-append (run_of ys from k) (get_or ys p [] ++ split.0), length-append (get_or ys p []) split.0)
 
 module _ (t : List Record) where
   pub leaves_long : length (leaves_of t) ≡ length t

@@ -2,6 +2,7 @@ pub mod Asked
 pub mod Charges
 pub mod Cuts
 pub mod Faults
+pub mod Found
 pub mod Leaves
 pub mod Order
 pub mod Parts

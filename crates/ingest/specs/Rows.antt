@@ -1,5 +1,5 @@
 -- The rows of each record, read off the two blocks. Assumes nothing.
-use Rattle.std.specs.Prelude.{ℕ, ◌+◌, ◌*◌, ◌/◌, ◌%◌, ◌^◌, ◌<◌, ◌≤◌, Bool, cond, List, [], map, ◌==◌, slice_index, slice_index_or}
+use Rattle.std.specs.Prelude.{ℕ, ◌+◌, ◌*◌, ◌/◌, ◌%◌, ◌^◌, ◌<◌, ◌≤◌, Bool, cond, List, [], map, length, ◌==◌, slice_index, slice_index_or}
 use Rattle.std.specs.List.{range_with_len, flat_map}
 use Rattle.ring.specs.Operations.{Operations}
 use Rattle.ingest.specs.declared.record.Record.{Record}
@@ -42,6 +42,6 @@ Within cells words (Interleaved place len first stride height) = (place + len �
 Within cells words (Bits place count height) = (place + count ≤ words) × (words_for height ≤ count)
 Within cells words (Chunked from count) = Unit {0}
 
--- so do those of record n of a table
+-- record n of a table is present, and its rows lie in such blocks
 abbrev pub Sits : ℕ → ℕ → List Record → ℕ → Type 0
-Sits cells words table n = Within cells words (record_at table n)
+Sits cells words table n = (n < length table) × Within cells words (record_at table n)

@@ -4,7 +4,9 @@
 mod account;
 mod block;
 mod fault;
+mod find;
 mod leaf;
+mod leaves;
 mod ordered;
 mod piece;
 mod read;

@@ -61,5 +61,6 @@ pub fn write_piece<R: Ring>(
 {
     let block = Block { cells, words };
     let ordered = check_piece(table, column, block.extent(), out.len())?;
-    Ok(ordered.write_run(0, 1, &block, out))
+    let leaves = ordered.find_all();
+    Ok(ordered.write_leaves(&leaves, &block, out))
 }

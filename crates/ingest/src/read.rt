@@ -127,7 +127,8 @@ pub fn read_columns<R: Ring>(
 {
     let block = Block { cells, words };
     let ordered = check_reading(layout, table, sources, block.extent(), buffer.len())?;
-    let area = ordered.write_run(0, sources, &block, buffer);
+    let leaves = ordered.find_all();
+    let area = ordered.write_leaves(&leaves, &block, buffer);
     clear(&mut buffer[area..layout.dense_capacity()]);
     Ok(ordered.charge(layout))
 }

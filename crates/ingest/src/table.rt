@@ -63,14 +63,6 @@ impl Record {
             Record::Bits { .. } => ConversionPass::Widened,
         }
     }
-
-    // The rows so far and those of this leaf, unless their number is no machine index.
-    fn rows_after(self, rows: usize, column: usize) -> Result<usize, JaggedIngestError>
-        ensures { result ≡ verdict (when (nat_le (2 ^ 64) (rows + leaf_height self)) (ColumnHeightOverflow column) ∷ []) (rows + leaf_height self) }
-    {
-        rows.checked_add(self.own_height())
-            .ok_or(JaggedIngestError::ColumnHeightOverflow { column })
-    }
 }
 
 impl<'a> Ordered<'a> {
@@ -91,12 +83,22 @@ impl<'a> Ordered<'a> {
         requires { «record» < length self.now.records.now }
         ensures { result ≡ verdict (when (nat_le (2 ^ 64) (height_of self.now.records.now «record»)) (ColumnHeightOverflow column) ∷ []) (height_of self.now.records.now «record») }
     {
-        self.try_fold(
-            record,
-            1,
-            0,
-            &|rows: usize, _: usize, leaf: Record| { leaf.rows_after(rows, column) },
-        )
+        match self.records[record] {
+            Record::Chunked { from, count } => {
+                let mut total: usize = 0;
+                for (part, &entry) in self.records[from..from + count].iter().enumerate() {
+                    let rows = match entry {
+                        Record::Chunked { .. } => self.height_of(from + part, column)?,
+                        leaf => leaf.own_height(),
+                    };
+                    total = total
+                        .checked_add(rows)
+                        .ok_or(JaggedIngestError::ColumnHeightOverflow { column })?;
+                }
+                Ok(total)
+            }
+            leaf => Ok(leaf.own_height()),
+        }
     }
 
     // A record's pass.

@@ -2,13 +2,14 @@
 ghost use Rattle.std.specs.Prelude.{◌≡◌, ℕ, ◌+◌, ◌-◌, ◌*◌, ◌<◌, ◌≤◌, map, length, drop, if◌then◌else◌, slice_index_or};
 ghost use Rattle.std.specs.List.{All};
 ghost use Rattle.ring.specs.Bytes.{over};
+ghost use Rattle.ingest.specs.Found.{found};
 ghost use Rattle.ingest.specs.Leaves.{words_for};
-ghost use Rattle.ingest.specs.Rows.{bit_at, leaf_rows, rows_of, Sits, Within};
-ghost use Rattle.ingest.specs.Table.{leaf_height, leaves_of};
-ghost use Rattle.ingest.specs.Walks.{run_of};
+ghost use Rattle.ingest.specs.Rows.{bit_at, leaf_rows, found_rows, Sits, Within};
+ghost use Rattle.ingest.specs.Table.{leaf_height};
 
 use crate::block::Block;
 use crate::leaf::WORD_BITS;
+use crate::leaves::Leaves;
 use crate::ordered::Ordered;
 use crate::record::Record;
 use ring::Ring;
@@ -59,34 +60,25 @@ impl<'a, R: Ring> Block<'a, R> {
 }
 
 impl<'a> Ordered<'a> {
-    // Writes the rows of a run of records to the front of the buffer, and tells how many.
-    // The walk is written out: a step of `try_fold` changes only what it hands on, and one that holds the buffer would be no plainer.
-    pub(crate) fn write_run<R: Ring>(
+    // Writes the rows of the leaves to the front of the buffer, one leaf after the other, and tells how many.
+    pub(crate) fn write_leaves<R: Ring>(
         &self,
-        from: usize,
-        count: usize,
+        leaves: &Leaves,
         block: &Block<R>,
         out: &mut [R],
     ) -> usize
-        requires within { from + count ≤ length self.now.records.now }
-        requires sits { All (Sits (length block.now.cells.now) (length block.now.words.now) self.now.records.now) (run_of (leaves_of self.now.records.now) from count) }
-        requires room { length (run_of (rows_of R.Ring.ops (map R.Ring.value block.now.cells.now) block.now.words.now self.now.records.now) from count) ≤ length out.old }
-        ensures told { result ≡ length (run_of (rows_of R.Ring.ops (map R.Ring.value block.now.cells.now) block.now.words.now self.now.records.now) from count) }
-        ensures written { map R.Ring.value out.new ≡ over (run_of (rows_of R.Ring.ops (map R.Ring.value block.now.cells.now) block.now.words.now self.now.records.now) from count) (map R.Ring.value out.old) }
+        requires sits { All (Sits (length block.now.cells.now) (length block.now.words.now) self.now.records.now) (found leaves.now) }
+        requires room { length (found_rows R.Ring.ops (map R.Ring.value block.now.cells.now) block.now.words.now self.now.records.now (found leaves.now)) ≤ length out.old }
+        ensures told { result ≡ length (found_rows R.Ring.ops (map R.Ring.value block.now.cells.now) block.now.words.now self.now.records.now (found leaves.now)) }
+        ensures written { map R.Ring.value out.new ≡ over (found_rows R.Ring.ops (map R.Ring.value block.now.cells.now) block.now.words.now self.now.records.now (found leaves.now)) (map R.Ring.value out.old) }
         ensures kept { (n : ℕ) → result ≤ n → drop n out.new ≡ drop n out.old }
     {
         let mut at = 0;
-        for &entry in &self.records[from..from + count] {
-            at += match entry {
-                Record::Chunked { from, count } => {
-                    self.write_run(from, count, block, &mut out[at..])
-                }
-                leaf => {
-                    let rows = leaf.own_height();
-                    block.write_leaf(leaf, &mut out[at..at + rows]);
-                    rows
-                }
-            };
+        for &record in leaves.as_slice() {
+            let entry = self.records[record];
+            let rows = entry.own_height();
+            block.write_leaf(entry, &mut out[at..at + rows]);
+            at += rows;
         }
         at
     }

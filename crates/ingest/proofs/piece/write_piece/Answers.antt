@@ -5,6 +5,7 @@ use Rattle.ring.specs.Checks.{verdict}
 use Rattle.ring.proofs.Verdicts.{verdict_all, verdict_err}
 use Rattle.ingest.specs.Charges.{outcome}
 use Rattle.ingest.specs.Cuts.{RowLaws}
+use Rattle.ingest.specs.Found.{found}
 use Rattle.ingest.specs.Piece.{piece_checks}
 use Rattle.ingest.specs.Table.{height_of}
 use Rattle.ingest.proofs.Cuts.{piece_by_cuts, piece_by_rows, row_laws}
@@ -27,11 +28,11 @@ returns-in_err-ordered g c =
       laws = IfOk-from_err c.from_residual.result _ c.from_residual.ensures.0;
     }
 
-pub write_run-requires : goal.write_run-requires
-write_run-requires g c =
+pub write_leaves-requires : goal.write_leaves-requires
+write_leaves-requires g c =
     let o = c.in_ok-ordered.ordered in
-    let piece = brought g.R.Ring.ops (map g.R.Ring.value c.args.cells.now) c.args.words.now c.args.table.now o.records.now c.args.column (length c.args.cells.now) (length c.args.words.now) c.extent.result.cells c.extent.result.words (length c.args.out.now) c.check_piece.result o c.check_piece.ensures.answer c.in_ok-ordered.was c.in_ok-ordered.ensures.same.0 c.extent.ensures.cells c.extent.ensures.words in
-    record { within = omega (arith, o.present, c.in_ok-ordered.ensures.same.1); sits = piece.sits; room = omega (arith, piece.tall, piece.fits) }
+    let piece = brought g.R.Ring.ops (map g.R.Ring.value c.args.cells.now) c.args.words.now c.args.table.now o.records.now (found c.find_all-leaves.result) c.args.column (length c.args.cells.now) (length c.args.words.now) c.extent.result.cells c.extent.result.words (length c.args.out.now) o.sources c.check_piece.result o c.check_piece.ensures.answer c.in_ok-ordered.was c.in_ok-ordered.ensures.same.0 c.in_ok-ordered.ensures.same.1 c.extent.ensures.cells c.extent.ensures.words c.find_all-leaves.ensures in
+    record { sits = piece.sits; room = omega (arith, piece.tall, piece.fits) }
 
 pub returns : goal.returns
 returns g c =
@@ -39,16 +40,16 @@ returns g c =
     let words = c.args.words.now in
     let cells = map g.R.Ring.value c.args.cells.now in
     let old = map g.R.Ring.value c.args.out.now in
-    let out = map g.R.Ring.value c.write_run.new.out in
+    let out = map g.R.Ring.value c.write_leaves.new.out in
     let o = c.in_ok-ordered.ordered in
-    let piece = brought g.R.Ring.ops cells words t o.records.now c.args.column (length c.args.cells.now) (length words) c.extent.result.cells c.extent.result.words (length c.args.out.now) c.check_piece.result o c.check_piece.ensures.answer c.in_ok-ordered.was c.in_ok-ordered.ensures.same.0 c.extent.ensures.cells c.extent.ensures.words in
-    let wrote = c.write_run.ensures.written ∙ ap (λ l. over l old) piece.rows_are in
+    let piece = brought g.R.Ring.ops cells words t o.records.now (found c.find_all-leaves.result) c.args.column (length c.args.cells.now) (length words) c.extent.result.cells c.extent.result.words (length c.args.out.now) o.sources c.check_piece.result o c.check_piece.ensures.answer c.in_ok-ordered.was c.in_ok-ordered.ensures.same.0 c.in_ok-ordered.ensures.same.1 c.extent.ensures.cells c.extent.ensures.words c.find_all-leaves.ensures in
+    let wrote = c.write_leaves.ensures.written ∙ ap (λ l. over l old) piece.rows_are in
     let by_rows = piece_by_rows g.R.Ring.ops cells words t old out wrote in
     record {
-      answer = ap Ok (c.write_run.ensures.told ∙ piece.tall) ∙ sym (verdict_all (piece_checks t c.args.column (length c.args.cells.now) (length words) (length c.args.out.now)) (height_of t 0) piece.passed);
+      answer = ap Ok (c.write_leaves.ensures.told ∙ piece.tall) ∙ sym (verdict_all (piece_checks t c.args.column (length c.args.cells.now) (length words) (length c.args.out.now)) (height_of t 0) piece.passed);
       written = wrote;
       same = by_rows;
       cuts = piece_by_cuts g.R.Ring.ops cells words t old out by_rows;
       laws = subst (RowLaws g.R.Ring.ops cells words) c.in_ok-ordered.ensures.same.0 (row_laws g.R.Ring.ops cells words o.records.now o.sound);
-      kept = c.write_run.ensures.kept (height_of t 0) (omega (arith, c.write_run.ensures.told, piece.tall));
+      kept = c.write_leaves.ensures.kept (height_of t 0) (omega (arith, c.write_leaves.ensures.told, piece.tall));
     }

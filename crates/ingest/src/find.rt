@@ -1,0 +1,66 @@
+// Finds the leaves of records.
+ghost use Rattle.std.specs.Prelude.{◌≡◌, ◌+◌, ◌<◌, ◌≤◌, [], ◌∷◌, ◌++◌, length};
+ghost use Rattle.ingest.specs.Found.{found};
+ghost use Rattle.ingest.specs.Order.{max_records};
+ghost use Rattle.ingest.specs.Table.{leaves_of, leaves_at};
+ghost use Rattle.ingest.specs.Walks.{run_of};
+
+use crate::leaves::Leaves;
+use crate::ordered::Ordered;
+use crate::record::{MAX_RECORDS, Record};
+
+impl Leaves {
+    fn none() -> Leaves
+        ensures { found result ≡ [] }
+    {
+        Leaves {
+            numbers: [0; MAX_RECORDS],
+            count: 0,
+        }
+    }
+
+    // Adds a leaf.
+    fn put(&mut self, record: usize)
+        requires { length (found self.old) < max_records }
+        ensures { found self.new ≡ found self.old ++ («record» ∷ []) }
+    {
+        self.numbers[self.count] = record;
+        self.count += 1;
+    }
+
+    // The numbers that are found.
+    pub(crate) fn as_slice(&self) -> &[usize]
+        ensures { result.now ≡ found self.now }
+    {
+        &self.numbers[..self.count]
+    }
+}
+
+impl<'a> Ordered<'a> {
+    // Adds the leaves of a record, in the order of their rows.
+    fn find(&self, record: usize, leaves: &mut Leaves)
+        requires within { «record» < length self.now.records.now }
+        requires room { length (found leaves.old) + length (leaves_at self.now.records.now «record») ≤ max_records }
+        ensures { found leaves.new ≡ found leaves.old ++ leaves_at self.now.records.now «record» }
+    {
+        match self.records[record] {
+            Record::Chunked { from, count } => {
+                for part in from..from + count {
+                    self.find(part, leaves);
+                }
+            }
+            _ => leaves.put(record),
+        }
+    }
+
+    // Finds the leaves of all columns.
+    pub(crate) fn find_all(&self) -> Leaves
+        ensures { found result ≡ run_of (leaves_of self.now.records.now) 0 self.now.sources }
+    {
+        let mut leaves = Leaves::none();
+        for column in 0..self.sources {
+            self.find(column, &mut leaves);
+        }
+        leaves
+    }
+}
