@@ -45,6 +45,7 @@ impl<'a> Ordered<'a> {
     {
         match self.records[record] {
             Record::Chunked { from, count } => {
+                // A leaf is told by its record number, which a slice of the run does not have.
                 for part in from..from + count {
                     self.find(part, leaves);
                 }
@@ -58,6 +59,7 @@ impl<'a> Ordered<'a> {
         ensures { found result ≡ run_of (leaves_of self.now.records.now) 0 self.now.sources }
     {
         let mut leaves = Leaves::none();
+        // A column is its number here: no slice is gone over.
         for column in 0..self.sources {
             self.find(column, &mut leaves);
         }

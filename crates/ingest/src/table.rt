@@ -120,6 +120,7 @@ impl<'a> Ordered<'a> {
     fn check_heights(&self) -> Result<(), JaggedIngestError>
         ensures { result ≡ verdict (overflow_checks self.now.records.now self.now.sources) tt }
     {
+        // A column is its number here: no slice is gone over.
         for column in 0..self.sources {
             self.height_of(column, column)?;
         }
@@ -154,6 +155,7 @@ pub fn height(table: &[Record], sources: usize, column: usize) -> Result<usize, 
 }
 
 // The most expensive pass that a column needs.
+// The column is looked for as in `height`: a function for that test and the order would promise more lines than it spares.
 pub fn pass(
     table: &[Record],
     sources: usize,

@@ -58,6 +58,7 @@ pub fn witness_of_vector<'a, R: Ring>(
 }
 
 // The witness in a buffer that columns were read into: the buffer's own cells.
+// A call beside that for a vector, since too few cells are another fault here.
 pub fn witness_of_buffer<'a, R: Ring>(
     layout: &JaggedLayout,
     buffer: &'a [R],

@@ -13,6 +13,7 @@ use std::alloc::{AllocError, Global};
 use words::{Unsaid, words};
 
 // Makes the call of a line, and gives the line to print; none where the line is blank or a comment.
+// Script's own step is as short: one function for both would take what tells the words as a closure, with its clauses.
 pub fn step(
     session: &mut Session,
     heap: Global,

@@ -4,6 +4,7 @@ ghost use Rattle.script.specs.Records.{separated_outputs};
 use std::fmt;
 
 // Some items, to be printed with commas between them.
+// The layout prints its boundaries so too: a public type for lists of anything is no part of what it offers.
 #[derive(Drop)]
 pub(crate) struct Separated<'a, T>(pub(crate) &'a [T]);
 

@@ -48,6 +48,7 @@ pub fn pieces<'a>(heap: Global, text: &'a [u8], mark: Mark) -> Result<Vec<&'a [u
 {
     let mut pieces = Vec::new(heap);
     let mut rest = text;
+    // One piece at a time: what the library's `split` gives is told by another definition of the pieces.
     loop {
         let end = reach(rest, mark);
         pieces.push(&rest[0..end])?;
