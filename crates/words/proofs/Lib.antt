@@ -1,3 +1,2 @@
-pub mod Arguments
 pub mod Cutting
 pub mod Saying

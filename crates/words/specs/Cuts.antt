@@ -1,7 +1,7 @@
 -- A text cut at its marks: a script into lines, a line into words, a list into items. Assumes nothing.
-use Rattle.std.specs.Prelude.{ℕ, Bool, cond, not, ◌||◌, List, [], ◌∷◌, map, length, filter, ◌==◌}
+use Rattle.std.specs.Prelude.{ℕ, Bool, not, ◌||◌, List, map, length, filter, ◌==◌}
 use Rattle.std.specs.Borrow.{Bor}
-use Rattle.std.specs.List.{prefix_len}
+use Rattle.std.specs.List.{prefix_len, slice_split}
 use Rattle.words.specs.declared.split.Mark.{Mark}
 use Rattle.words.specs.declared.split.Mark.TheVariants.{Newline, Blank, Comma, Star, Semicolon, Colon}
 
@@ -18,15 +18,9 @@ is_mark Colon b = b == 58
 abbrev pub ahead : Mark → List ℕ → ℕ
 ahead mark text = prefix_len (λ b. not (is_mark mark b)) text
 
--- a byte put in front of the first piece
-abbrev pub onto : ℕ → List (List ℕ) → List (List ℕ)
-onto b [] = (b ∷ []) ∷ []
-onto b (p ∷ ps) = (b ∷ p) ∷ ps
-
 -- the texts between the marks, one more than there are marks
 unfoldable pub pieces : Mark → List ℕ → List (List ℕ)
-pieces mark [] = [] ∷ []
-pieces mark (b ∷ bs) = cond (is_mark mark b) ([] ∷ pieces mark bs) (onto b (pieces mark bs))
+pieces mark text = slice_split (is_mark mark) text
 
 -- what slices hold
 abbrev pub texts : List (Bor (List ℕ)) → List (List ℕ)

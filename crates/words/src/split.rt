@@ -46,18 +46,7 @@ pub fn reach(text: &[u8], mark: Mark) -> usize
 pub fn pieces<'a>(heap: Global, text: &'a [u8], mark: Mark) -> Result<Vec<&'a [u8]>, AllocError>
     ensures { IfOk result (λ v. texts v.items ≡ cut mark text.now) }
 {
-    let mut pieces = Vec::new(heap);
-    let mut rest = text;
-    // One piece at a time: what the library's `split` gives is told by another definition of the pieces.
-    loop {
-        let end = reach(rest, mark);
-        pieces.push(&rest[0..end])?;
-        if end == rest.len() {
-            break;
-        }
-        rest = &rest[end + 1..];
-    }
-    Ok(pieces)
+    text.split(|byte| mark.is(*byte)).collect(heap)
 }
 
 // The words of a line.
