@@ -45,9 +45,11 @@ impl<'a> Ordered<'a> {
     {
         match self.records[record] {
             Record::Chunked { from, count } => {
-                // A leaf is told by its record number, which a slice of the run does not have.
-                for part in from..from + count {
-                    self.find(part, leaves);
+                for (part, &entry) in self.records[from..from + count].iter().enumerate() {
+                    match entry {
+                        Record::Chunked { .. } => self.find(from + part, leaves),
+                        _ => leaves.put(from + part),
+                    }
                 }
             }
             _ => leaves.put(record),

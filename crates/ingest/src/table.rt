@@ -1,5 +1,5 @@
 // Tables of records: their order, and the heights and passes of their columns.
-ghost use Rattle.std.specs.Prelude.{◌≡◌, ℕ, ◌+◌, ◌^◌, ◌<◌, ◌≤◌, [], ◌∷◌, length, take, nat_le, IfOk, MatchResult, OnOk};
+ghost use Rattle.std.specs.Prelude.{◌≡◌, ℕ, ◌^◌, ◌<◌, ◌≤◌, [], ◌∷◌, length, take, nat_le, IfOk, MatchResult, OnOk};
 ghost use Rattle.ring.specs.Checks.{verdict, when};
 ghost use Rattle.ring.specs.Bytes.{over};
 ghost use Rattle.ingest.specs.declared.fault.JaggedIngestError.TheVariants.{ColumnHeightOverflow};

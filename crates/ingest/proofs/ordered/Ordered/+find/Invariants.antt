@@ -8,4 +8,4 @@ abbrev pub decreases-find : goal.decreases-find
 decreases-find l = length l.self.now.records.now - l.record
 
 abbrev pub invariant-loop-part : goal.invariant-loop-part
-invariant-loop-part l = found l.leaves ≡ found l.initial.leaves ++ run_of (leaves_of l.self.records.now) l.from (l.part - l.from)
+invariant-loop-part l = found l.leaves ≡ found l.initial.leaves ++ run_of (leaves_of l.self.records.now) l.from l.part
