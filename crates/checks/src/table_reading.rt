@@ -37,12 +37,13 @@ fn wrong(record: usize) -> Result<(), JaggedIngestError> {
     Err(JaggedIngestError::TableOutOfOrder { record })
 }
 
-// The number of the fault of a piece over 4 cells and 1 word.
-fn fault(entry: Record) -> Option<u8> {
+// The number of the fault of a piece over 4 cells and 1 word, or 0: a test tells numbers, as the records of a run do.
+fn fault(entry: Record) -> u8 {
     let cells = [Word::new(7); 4];
     let mut out = [Word::new(0); 4];
-    let outcome = write_piece(&[entry], 0, &cells, &[5], &mut out);
-    outcome.err().map(|fault| fault.number())
+    write_piece(&[entry], 0, &cells, &[5], &mut out)
+        .err()
+        .map_or(0, |fault| fault.number())
 }
 
 #[test]
@@ -103,14 +104,14 @@ fn asks(rt: HostRuntime) {
 
 #[test]
 fn leaves(rt: HostRuntime) {
-    assert_eq!(rt; fault(dense(5, 0)), Some(16));
-    assert_eq!(rt; fault(dense(4, 0)), None);
-    assert_eq!(rt; fault(strided(4, 0, 0, 1)), Some(12));
-    assert_eq!(rt; fault(strided(4, 9, 0, 0)), None);
-    assert_eq!(rt; fault(strided(4, 4, 1, 1)), Some(13));
-    assert_eq!(rt; fault(strided(5, 0, 1, 0)), Some(16));
-    assert_eq!(rt; fault(bits(0, 1, 65)), Some(14));
-    assert_eq!(rt; fault(bits(0, 2, 1)), Some(16));
+    assert_eq!(rt; fault(dense(5, 0)), 16);
+    assert_eq!(rt; fault(dense(4, 0)), 0);
+    assert_eq!(rt; fault(strided(4, 0, 0, 1)), 12);
+    assert_eq!(rt; fault(strided(4, 9, 0, 0)), 0);
+    assert_eq!(rt; fault(strided(4, 4, 1, 1)), 13);
+    assert_eq!(rt; fault(strided(5, 0, 1, 0)), 16);
+    assert_eq!(rt; fault(bits(0, 1, 65)), 14);
+    assert_eq!(rt; fault(bits(0, 2, 1)), 16);
     let cells = [Word::new(7); 4];
     let mut out = [Word::new(0); 4];
     assert_eq!(rt;

@@ -70,6 +70,7 @@ impl Records {
     {
         let count = entries.len().min(MAX_ENTRIES);
         let mut records = [Record::Chunked { from: 0, count: 0 }; MAX_ENTRIES];
+        // The place is counted, since the library tells nothing of what a loop over `iter_mut` beside `zip` wrote.
         for (place, entry) in entries[..count].iter().enumerate() {
             records[place] = Record::from(*entry);
         }

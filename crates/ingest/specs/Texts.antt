@@ -1,20 +1,12 @@
 -- The texts of faults, passes and reports. Assumes nothing.
 use Rattle.std.specs.Prelude.{ℕ, ◌+◌, cond, ◌&&◌, List, ◌++◌, codes, decimal, ◌==◌}
-use Prim.Native.String.{String}
+use Rattle.ring.specs.Texts.{entry, field}
 use Rattle.ingest.specs.declared.account.IngestReport.{IngestReport}
 use Rattle.ingest.specs.declared.fault.JaggedIngestError.{JaggedIngestError}
 use Rattle.ingest.specs.declared.fault.JaggedIngestError.TheVariants.{CommittedVectorTooShort, ColumnCountMismatch, ColumnHeightMismatch, ZeroStride, StrideOutOfRange, PackedWordsTooShort, TableOutOfOrder, PlaceOutsideBlock, ColumnHeightOverflow, BufferTooShort, NoSuchColumn}
 use Rattle.ingest.specs.declared.record.ConversionPass.{ConversionPass}
 use Rattle.ingest.specs.declared.record.ConversionPass.TheVariants.{Shared, Copied, Gathered, Widened}
 use Rattle.ingest.specs.Charges.{charged_of}
-
--- a key and its value
-abbrev pub entry : String → List ℕ → List ℕ
-entry key text = codes key ++ (codes "=" ++ text)
-
--- the same after a space
-abbrev pub field : String → List ℕ → List ℕ
-field key text = codes " " ++ entry key text
 
 -- a fault of one column's source
 abbrev pub OfSource : JaggedIngestError → Type 0

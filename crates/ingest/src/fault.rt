@@ -3,7 +3,7 @@ ghost use Rattle.std.specs.Prelude.{◌≡◌};
 ghost use Rattle.ingest.specs.Faults.{fault_number, leaf_number, passed_up};
 
 // What is wrong with a leaf, told with the column whose rows it holds.
-// These stand again among the faults of a reading, which `From` makes of them: the check of a leaf can give no other.
+// These stand again among the faults of a reading, whose variants callers match on; the check of a leaf can give no other.
 #[derive(Clone, Copy, Debug, PartialEq, Eq)]
 pub enum LeafError {
     // A row would stand still.

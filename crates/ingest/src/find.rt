@@ -38,6 +38,7 @@ impl Leaves {
 
 impl<'a> Ordered<'a> {
     // Adds the leaves of a record, in the order of their rows.
+    // A recursion of its own and not a step of `try_fold`: the project keeps the finding of leaves in this form.
     fn find(&self, record: usize, leaves: &mut Leaves)
         requires within { «record» < length self.now.records.now }
         requires room { length (found leaves.old) + length (leaves_at self.now.records.now «record») ≤ max_records }
@@ -61,7 +62,7 @@ impl<'a> Ordered<'a> {
         ensures { found result ≡ run_of (leaves_of self.now.records.now) 0 self.now.sources }
     {
         let mut leaves = Leaves::none();
-        // A column is its number here: no slice is gone over.
+        // A column is asked for by its number; what its record holds is looked at by what is called.
         for column in 0..self.sources {
             self.find(column, &mut leaves);
         }

@@ -3,7 +3,7 @@ ghost use Rattle.std.specs.Prelude.{◌≡◌, ◌≤◌, length};
 
 use crate::record::MAX_RECORDS;
 
-// The library has no heap, so the numbers that are found lie in an array, with their count beside it.
+// Leaves are found before a row is written, a form that the project keeps; with no heap they lie in an array, with their count.
 #[derive(Drop)]
 pub(crate) struct Leaves {
     pub(crate) numbers: [usize; MAX_RECORDS],

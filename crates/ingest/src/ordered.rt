@@ -7,6 +7,7 @@ ghost use Rattle.ingest.specs.Walks.{run_of};
 use crate::record::Record;
 
 // The run of each chunk follows it and is present, and so are the columns, one for each source, whose leaves are few.
+// Which record is meant is told by its number, within the table: a type for such numbers would be made anew for each part.
 #[derive(Clone, Copy)]
 pub(crate) struct Ordered<'a> {
     pub(crate) records: &'a [Record],

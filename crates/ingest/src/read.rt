@@ -45,7 +45,7 @@ impl<'a> Ordered<'a> {
         ensures { result ≡ verdict (columns_checks (shape layout.now) self.now.records.now extent.cells extent.words) tt }
     {
         for column in 0..self.sources {
-            // The layout tells a height by its column; its boundaries, taken two by two, would be no plainer.
+            // The layout tells a height by its column; of two boundaries it would have to be shown that their difference is the height.
             let expected = layout.column_height(column).unwrap();
             self.check_column(column, expected, extent)?;
         }
@@ -98,6 +98,7 @@ fn check_reading<'a>(
 }
 
 // Sets cells to zero.
+// The selector has such a function too: three lines are no part of what the ring offers to both.
 fn clear<R: Ring>(out: &mut [R])
     ensures { map R.Ring.value out.new ≡ replicate (length out.old) R.Ring.ops.nought }
 {

@@ -79,6 +79,7 @@ impl<'a> Ordered<'a> {
     }
 
     // A record's height, for the column that it belongs to.
+    // A sum over a chunk's run and not a step of `try_fold`: the project keeps the height in this form.
     pub(crate) fn height_of(&self, record: usize, column: usize) -> Result<usize, JaggedIngestError>
         requires { «record» < length self.now.records.now }
         ensures { result ≡ verdict (when (nat_le (2 ^ 64) (height_of self.now.records.now «record»)) (ColumnHeightOverflow column) ∷ []) (height_of self.now.records.now «record») }
@@ -120,7 +121,7 @@ impl<'a> Ordered<'a> {
     fn check_heights(&self) -> Result<(), JaggedIngestError>
         ensures { result ≡ verdict (overflow_checks self.now.records.now self.now.sources) tt }
     {
-        // A column is its number here: no slice is gone over.
+        // A column is asked for by its number; what its record holds is looked at by what is called.
         for column in 0..self.sources {
             self.height_of(column, column)?;
         }

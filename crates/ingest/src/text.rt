@@ -40,12 +40,10 @@ impl JaggedIngestError {
                 column,
                 expected,
                 actual,
-            } => {
-                write!(
-                    f,
-                    "{name} column={column} expected={expected} actual={actual}"
-                )
-            }
+            } => write!(
+                f,
+                "{name} column={column} expected={expected} actual={actual}"
+            ),
             JaggedIngestError::ZeroStride { column }
             | JaggedIngestError::ColumnHeightOverflow { column } => {
                 write!(f, "{name} column={column}")
@@ -59,12 +57,10 @@ impl JaggedIngestError {
                 column,
                 required,
                 available,
-            } => {
-                write!(
-                    f,
-                    "{name} column={column} required={required} available={available}"
-                )
-            }
+            } => write!(
+                f,
+                "{name} column={column} required={required} available={available}"
+            ),
             JaggedIngestError::PlaceOutsideBlock { column, record } => {
                 write!(f, "{name} column={column} record={record}")
             }

@@ -21,7 +21,7 @@ fn dense_part<'a, R: Ring>(layout: &JaggedLayout, cells: &'a [R]) -> Option<&'a 
     if cells.len() < required {
         return None;
     }
-    // A slice's own `get` says nothing of where the cells lie, which the views promise.
+    // Neither `get` nor `split_at_checked` of a slice says where the cells lie, which the views promise.
     Some(&cells[..required])
 }
 

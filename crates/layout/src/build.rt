@@ -56,6 +56,7 @@ impl JaggedLayout {
     }
 }
 
+// By hand, since a derive would have no column at all.
 impl Default for JaggedLayout {
     ghost is_default = { λ l. shape l ≡ empty_shape };
 

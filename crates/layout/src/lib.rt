@@ -28,7 +28,7 @@ mod tests {
         Ok(layout)
     }
 
-    // The number of the fault, or 0.
+    // The number of the fault, or 0: a test tells numbers, as the records of a run do.
     fn fault(rows: usize, heights: &[usize], minimum: usize) -> u8 {
         match asked(rows, heights, minimum) {
             Ok(_) => 0,

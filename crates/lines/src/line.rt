@@ -12,7 +12,7 @@ use script::{Session, answer_text, is_skipped, parse};
 use std::alloc::{AllocError, Global};
 use words::{Unsaid, words};
 
-// Makes the call of a line, and gives the line to print; none where the line is blank or a comment.
+// Makes the call of a line, and gives the line to print; none where the line is blank or a comment, which is no error.
 // Script's own step is as short: one function for both would take what tells the words as a closure, with its clauses.
 pub fn step(
     session: &mut Session,
@@ -48,6 +48,7 @@ fn told(session: &mut Session, heap: Global, words: &[&[u8]]) -> Result<String, 
 }
 
 // What the lines of the other layers tell, or else that the line is no call.
+// The selector's crate ends a call so too: a function for the three arms would have a clause longer than they are.
 fn other_told(session: &Session, heap: Global, words: &[&[u8]]) -> Result<String, AllocError>
     ensures { IfOk result (λ s. SelectorTells (slot session.now) (texts words.now) (string_bytes s)) }
 {

@@ -7,7 +7,7 @@ use std::io;
 use std::io::Read;
 use words::{Mark, pieces};
 
-// The programs share no function that does this: no clause tells what a program prints, so it would promise nothing.
+// The programs share no function for this: it would be public and promise nothing, as no clause tells what is printed.
 fn main(rt: HostRuntime) -> io::Result<()> {
     let heap = rt.alloc();
     let mut text = Vec::new(heap);

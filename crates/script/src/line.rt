@@ -13,7 +13,7 @@ use crate::text::record;
 use std::alloc::{AllocError, Global};
 use words::{Unsaid, words};
 
-// Makes the call of a line, and gives the line to print; none where the line is blank or a comment.
+// Makes the call of a line, and gives the line to print; none where the line is blank or a comment, which is no error.
 pub fn step(
     session: &mut Session,
     heap: Global,

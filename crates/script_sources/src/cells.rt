@@ -145,6 +145,7 @@ fn witness_text<R: Element + PartialEq>(heap: Global, cells: &[R]) -> Result<Str
     format!(in heap; "ok cells={all}")
 }
 
+// As for columns but for the call and the report: as a closure, the call's contract would be said once more.
 fn piece_told<R: Element + PartialEq>(
     heap: Global,
     table: &[Record],

@@ -73,6 +73,7 @@ fn cells_call(heap: Global, name: &[u8], arguments: &[&[u8]]) -> Result<CellsCal
     }
 }
 
+// Calls that take the same arguments have a reader each: one for all of them would be opened again by each, at more length.
 fn order_call(heap: Global, arguments: &[&[u8]]) -> Result<Call, Unsaid>
     ensures { Says said (order_says (texts arguments.now)) result }
 {

@@ -69,7 +69,7 @@ fn told(session: &Session, heap: Global, call: Call) -> Result<String, Refusal>
     }
 }
 
-// A fault's number, then its name and its fields.
+// A fault's number, then its name and its fields, as in the crates beside: a trait for it would want an impl for each of four.
 fn fault_text(heap: Global, fault: &JaggedIngestError) -> Result<String, AllocError>
     ensures { IfOk result (λ s. string_bytes s ≡ ingest_fault fault.now) }
 {

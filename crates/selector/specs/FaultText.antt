@@ -1,12 +1,8 @@
 -- The text of the selector's faults. Assumes nothing.
 use Rattle.std.specs.Prelude.{ℕ, List, ◌++◌, codes, decimal}
-use Prim.Native.String.{String}
+use Rattle.ring.specs.Texts.{field}
 use Rattle.selector.specs.declared.error.JaggedError.{JaggedError}
 use Rattle.selector.specs.declared.error.JaggedError.TheVariants.{RowPointWidthMismatch, ColumnPointWidthMismatch, DensePointWidthMismatch, BufferTooShort}
-
--- a key and its value, after a space
-abbrev pub field : String → List ℕ → List ℕ
-field key text = codes " " ++ (codes key ++ (codes "=" ++ text))
 
 -- the name and the fields
 abbrev pub selector_fault_fields : JaggedError → List ℕ

@@ -59,6 +59,7 @@ impl<R: Ring> FittedPoint<'_, R> {
     }
 }
 
+// Start and end are told by the boundaries one by one: a struct of them would be made for this call and that of the table.
 // What the rows of a column from start to end add up to, each by its row weight and the dense weight of its place.
 fn column_sum<R: Ring>(row: &[R], dense: &[R], leading: R, start: usize, end: usize) -> R
     requires few { length dense.now < 64 }

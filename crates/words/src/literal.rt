@@ -101,10 +101,10 @@ pub fn truth(word: &[u8]) -> Option<bool>
     ensures { result ≡ truth_of word.now }
 {
     if says(word, "true") {
-        return Some(true);
+        Some(true)
+    } else if says(word, "false") {
+        Some(false)
+    } else {
+        None
     }
-    if says(word, "false") {
-        return Some(false);
-    }
-    None
 }
