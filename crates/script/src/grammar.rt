@@ -1,4 +1,5 @@
 // What the words of a line say of a call.
+// Names are asked one after the other: a `match` of the word as text would want a lemma a name for bytes that are no text.
 ghost use Rattle.std.specs.Prelude.{◌≡◌};
 ghost use Rattle.script.specs.Calls.{said, ring_said, kind_of, pair_said, operands_say, new_says, minimum_says, show_says, height_says, encode_layout_says, encode_says, read_says, bool_says, operation_says, layout_says, ring_says, kind_says, meaning, bare_says};
 ghost use Rattle.words.specs.Cuts.{texts};
@@ -119,7 +120,6 @@ fn kind_call(heap: Global, name: &[u8], arguments: &[&[u8]]) -> Result<Call, Uns
 pub fn ring_kind(word: &[u8]) -> Option<Kind>
     ensures { result ≡ kind_of word.now }
 {
-    // the facts on an arm `b"pair-pair-residue"` of a `match` would be on the word's length alone
     if says(word, "residue") {
         Some(Kind::Residue)
     } else if says(word, "word") {

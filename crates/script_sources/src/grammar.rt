@@ -1,4 +1,5 @@
 // What the words of a line say of a call on tables.
+// Names are asked one after the other: a `match` of the word as text would want a lemma a name for bytes that are no text.
 ghost use Rattle.words.specs.Cuts.{texts};
 ghost use Rattle.words.specs.Said.{Says};
 ghost use Rattle.script_sources.specs.Calls.{said, cells_said, order_says, height_says, pass_says, heights_says, piece_height_says, read_columns_says, read_committed_says, witness_of_vector_says, witness_of_buffer_says, write_piece_says, table_says, cells_says, kind_says, meaning};
