@@ -6,7 +6,6 @@ use crate::laid::laid;
 use layout::JaggedLayout;
 use ring::{Pair, Residue, Ring, Word};
 use selector::{JaggedError, JaggedPoint, equality_prefix, evaluate, table};
-use std::process::Abort;
 use std::test::Fail;
 
 // One added so many times.
@@ -18,8 +17,8 @@ fn minus<R: Ring>(n: u32) -> R {
     R::zero().minus(number(n))
 }
 
-// Heights 2 and 1 with one row variable, at row (3) and column (5), then at the dense point (7, 2).
-fn worked<R: Ring + PartialEq>(rt: &impl Abort) -> Result<(), Fail>
+// Heights 2 and 1 with one row variable, at row (3) and column (5), then at the dense point (7, 2): whether all is as worked.
+fn worked<R: Ring + PartialEq>() -> Result<bool, Fail>
     requires { 5 * type_size R.row < 2 ^ 63 }
 {
     let layout = laid(1, &[2, 1])?;
@@ -29,46 +28,49 @@ fn worked<R: Ring + PartialEq>(rt: &impl Abort) -> Result<(), Fail>
     let mut cells: [R; 5] = [number(9); 5];
     table(&layout, &point, &mut cells)?;
     let written: [R; 5] = [number(8), minus(12), minus(10), number(0), number(9)];
-    assert!(rt; cells == written);
     let dense: [R; 2] = [number(7), number(2)];
-    assert!(rt; evaluate(&layout, &point, &dense)? == number(262));
-    Ok(())
+    let value = evaluate(&layout, &point, &dense)?;
+    Ok(cells == written && value == number(262))
 }
 
-// A corner of the cube selects one cell: the last row of a column that ends at the capacity.
-fn corner<R: Ring + PartialEq>(rt: &impl Abort) -> Result<(), Fail>
+// A corner of the cube selects one cell: whether it is the last row of a column that ends at the capacity.
+fn corner<R: Ring + PartialEq>() -> Result<bool, Fail>
     requires { 2 * type_size R.row < 2 ^ 63 }
 {
     let layout = laid(2, &[1, 3])?;
     let row: [R; 2] = [number(1), number(0)];
     let column: [R; 1] = [number(1)];
     let dense: [R; 2] = [number(1), number(1)];
-    assert!(rt; evaluate(&layout, &JaggedPoint::new(&row, &column), &dense)? == number(1));
-    Ok(())
+    let value = evaluate(&layout, &JaggedPoint::new(&row, &column), &dense)?;
+    Ok(value == number(1))
 }
 
 #[test]
 fn residues(rt: HostRuntime) -> Result<(), Fail> {
-    worked::<Residue>(&rt)?;
-    corner::<Residue>(&rt)
+    assert!(rt; worked::<Residue>()?);
+    assert!(rt; corner::<Residue>()?);
+    Ok(())
 }
 
 #[test]
 fn words(rt: HostRuntime) -> Result<(), Fail> {
-    worked::<Word>(&rt)?;
-    corner::<Word>(&rt)
+    assert!(rt; worked::<Word>()?);
+    assert!(rt; corner::<Word>()?);
+    Ok(())
 }
 
 #[test]
 fn pairs(rt: HostRuntime) -> Result<(), Fail> {
-    worked::<Pair<Residue>>(&rt)?;
-    corner::<Pair<Residue>>(&rt)
+    assert!(rt; worked::<Pair<Residue>>()?);
+    assert!(rt; corner::<Pair<Residue>>()?);
+    Ok(())
 }
 
 #[test]
 fn pairs_of_pairs(rt: HostRuntime) -> Result<(), Fail> {
-    worked::<Pair<Pair<Word>>>(&rt)?;
-    corner::<Pair<Pair<Word>>>(&rt)
+    assert!(rt; worked::<Pair<Pair<Word>>>()?);
+    assert!(rt; corner::<Pair<Pair<Word>>>()?);
+    Ok(())
 }
 
 // One empty column and no variables at all.
