@@ -30,6 +30,7 @@ pub enum LeafError {
 
 impl LeafError {
     // The number that the fault goes by.
+    // Told apart from those of a reading, as the contract tells it: by `From` it would be told by the fault that is made of it.
     pub fn number(&self) -> u8
         ensures { result ≡ leaf_number self.now }
     {

@@ -45,7 +45,7 @@ impl<'a> Ordered<'a> {
         ensures { result ≡ verdict (columns_checks (shape layout.now) self.now.records.now extent.cells extent.words) tt }
     {
         for column in 0..self.sources {
-            // The layout tells a height by its column; of two boundaries it would have to be shown that their difference is the height.
+            // The check and its faults need the column's number, and the layout tells a height by it: boundaries in pairs would be no plainer.
             let expected = layout.column_height(column).unwrap();
             self.check_column(column, expected, extent)?;
         }

@@ -73,6 +73,7 @@ impl<'a> Ordered<'a> {
         ensures written { map R.Ring.value out.new ≡ over (found_rows R.Ring.ops (map R.Ring.value block.now.cells.now) block.now.words.now self.now.records.now (found leaves.now)) (map R.Ring.value out.old) }
         ensures kept { (n : ℕ) → result ≤ n → drop n out.new ≡ drop n out.old }
     {
+        // The place moves on by the rows of each leaf, which no iterator counts.
         let mut at = 0;
         for &record in leaves.as_slice() {
             let entry = self.records[record];

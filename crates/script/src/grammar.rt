@@ -1,5 +1,5 @@
 // What the words of a line say of a call.
-// Names are asked one after the other: a `match` of the word as text would want a lemma a name for bytes that are no text.
+// Names are asked one after the other: with a `match` of byte strings, longer names among them, the proof did not close.
 ghost use Rattle.std.specs.Prelude.{◌≡◌};
 ghost use Rattle.script.specs.Calls.{said, ring_said, kind_of, pair_said, operands_say, new_says, minimum_says, show_says, height_says, encode_layout_says, encode_says, read_says, bool_says, operation_says, layout_says, ring_says, kind_says, meaning, bare_says};
 ghost use Rattle.words.specs.Cuts.{texts};

@@ -50,6 +50,7 @@ fn answered(
     ensures printed { IfOk result (λ s. Recorded (slot session.old) number (meaning (texts words.now)) (string_bytes s)) }
     ensures slots { OnOk result ((other : List ℕ) → slot session.new other ≡ slots_by (slot session.old) (meaning (texts words.now)) other) }
 {
+    // The crates above end a call by such arms too: a function for them would have a clause longer than they are.
     let answer = match parse(heap, words) {
         Ok(call) => session.make(heap, call)?,
         Err(Unsaid::Nothing) => Answer::NoCall,

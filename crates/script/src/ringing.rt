@@ -69,6 +69,7 @@ fn encoded<R: Element + PartialEq>(
         return Ok(Answer::NoCall);
     };
     let mut buffer = blank_buffer(heap, room)?;
+    // A refusal is an answer here too, so the result is matched.
     match element.encode(&mut buffer) {
         Ok(written) => Ok(Answer::Written { written, buffer }),
         Err(fault) => Ok(Answer::RingFault { fault }),

@@ -40,6 +40,7 @@ impl fmt::Display for Answer {
             Answer::Element { text } => write!(f, "ok element={text}"),
             Answer::NoElement => write!(f, "ok element=none"),
             Answer::Equal { equal } => write!(f, "ok equal={equal}"),
+            // Two faults, each with its number: a trait for faults with numbers would want an impl for each.
             Answer::LayoutFault { fault } => {
                 let number = fault.number();
                 write!(f, "fault {number} {fault}")

@@ -1,5 +1,5 @@
 // What the words of a line say of a call of the selector.
-// Names are asked one after the other: a `match` of the word as text would want a lemma a name for bytes that are no text.
+// Names are asked one after the other: with a `match` of byte strings, longer names among them, the proof did not close.
 ghost use Rattle.std.specs.Prelude.{◌≡◌};
 ghost use Rattle.words.specs.Cuts.{texts};
 ghost use Rattle.words.specs.Said.{Says};

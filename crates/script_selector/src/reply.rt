@@ -24,6 +24,7 @@ pub(crate) fn weights<R: Element + PartialEq>(
 }
 
 // Writes the selector's table into a buffer, and tells it.
+// Two calls tell a fault: an error of this crate's own, with its two conversions, would be longer than the two arms.
 pub(crate) fn tabled<'a, R: Element + PartialEq>(
     heap: Global,
     layout: &JaggedLayout,

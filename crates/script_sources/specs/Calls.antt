@@ -49,11 +49,15 @@ module _ (arguments : List (List ℕ)) where
   abbrev pub order_says : Option Said
   order_says = with 2 arguments (and (table_of (at arguments 0)) (λ table. and (number_of (at arguments 1)) (λ sources. Some (check_order table sources))))
 
+  -- a table, its sources and a column
+  abbrev pub column_says : Option (List Record × ℕ × ℕ)
+  column_says = with 3 arguments (and (table_of (at arguments 0)) (λ table. and (number_of (at arguments 1)) (λ sources. and (number_of (at arguments 2)) (λ column. Some (table, sources, column)))))
+
   abbrev pub height_says : Option Said
-  height_says = with 3 arguments (and (table_of (at arguments 0)) (λ table. and (number_of (at arguments 1)) (λ sources. and (number_of (at arguments 2)) (λ column. Some (height table sources column)))))
+  height_says = and column_says (λ p. Some (height p.0 p.1 p.2))
 
   abbrev pub pass_says : Option Said
-  pass_says = with 3 arguments (and (table_of (at arguments 0)) (λ table. and (number_of (at arguments 1)) (λ sources. and (number_of (at arguments 2)) (λ column. Some (pass table sources column)))))
+  pass_says = and column_says (λ p. Some (pass p.0 p.1 p.2))
 
   abbrev pub heights_says : Option Said
   heights_says = with 3 arguments (and (table_of (at arguments 0)) (λ table. and (number_of (at arguments 1)) (λ sources. and (list_of (at arguments 2)) (λ buffer. Some (heights table sources buffer)))))
@@ -64,14 +68,18 @@ module _ (arguments : List (List ℕ)) where
   abbrev pub read_columns_says : Option CellsSaid
   read_columns_says = with 6 arguments (and (name_of (at arguments 0)) (λ name. and (table_of (at arguments 1)) (λ table. and (number_of (at arguments 2)) (λ sources. and (list_of (at arguments 3)) (λ cells. and (list_of (at arguments 4)) (λ words. and (list_of (at arguments 5)) (λ buffer. Some (read_columns name table sources cells words buffer))))))))
 
+  -- a slot's name, and cells
+  abbrev pub slot_says : Option (List ℕ × List ℕ)
+  slot_says = with 2 arguments (and (name_of (at arguments 0)) (λ name. and (list_of (at arguments 1)) (λ cells. Some (name, cells))))
+
   abbrev pub read_committed_says : Option CellsSaid
-  read_committed_says = with 2 arguments (and (name_of (at arguments 0)) (λ name. and (list_of (at arguments 1)) (λ cells. Some (read_committed name cells))))
+  read_committed_says = and slot_says (λ p. Some (read_committed p.0 p.1))
 
   abbrev pub witness_of_vector_says : Option CellsSaid
-  witness_of_vector_says = with 2 arguments (and (name_of (at arguments 0)) (λ name. and (list_of (at arguments 1)) (λ cells. Some (witness_of_vector name cells))))
+  witness_of_vector_says = and slot_says (λ p. Some (witness_of_vector p.0 p.1))
 
   abbrev pub witness_of_buffer_says : Option CellsSaid
-  witness_of_buffer_says = with 2 arguments (and (name_of (at arguments 0)) (λ name. and (list_of (at arguments 1)) (λ cells. Some (witness_of_buffer name cells))))
+  witness_of_buffer_says = and slot_says (λ p. Some (witness_of_buffer p.0 p.1))
 
   abbrev pub write_piece_says : Option CellsSaid
   write_piece_says = with 5 arguments (and (table_of (at arguments 0)) (λ table. and (number_of (at arguments 1)) (λ column. and (list_of (at arguments 2)) (λ cells. and (list_of (at arguments 3)) (λ words. and (list_of (at arguments 4)) (λ buffer. Some (write_piece table column cells words buffer)))))))

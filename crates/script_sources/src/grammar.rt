@@ -1,12 +1,14 @@
 // What the words of a line say of a call on tables.
-// Names are asked one after the other: a `match` of the word as text would want a lemma a name for bytes that are no text.
+// Names are asked one after the other: with a `match` of byte strings, longer names among them, the proof did not close.
+ghost use Rattle.std.specs.Prelude.{vec_items, string_bytes};
 ghost use Rattle.words.specs.Cuts.{texts};
 ghost use Rattle.words.specs.Said.{Says};
-ghost use Rattle.script_sources.specs.Calls.{said, cells_said, order_says, height_says, pass_says, heights_says, piece_height_says, read_columns_says, read_committed_says, witness_of_vector_says, witness_of_buffer_says, write_piece_says, table_says, cells_says, kind_says, meaning};
+ghost use Rattle.script_sources.specs.Calls.{said, cells_said, order_says, column_says, slot_says, height_says, pass_says, heights_says, piece_height_says, read_columns_says, read_committed_says, witness_of_vector_says, witness_of_buffer_says, write_piece_says, table_says, cells_says, kind_says, meaning};
 ghost use Rattle.script_sources.specs.Tables.{headed};
 
 use crate::call::{Call, CellsCall};
 use crate::table::table;
+use ingest::Record;
 use script::ring_kind;
 use std::alloc::Global;
 use words::{Unsaid, list, name, number, says};
@@ -74,7 +76,6 @@ fn cells_call(heap: Global, name: &[u8], arguments: &[&[u8]]) -> Result<CellsCal
     }
 }
 
-// Calls that take the same arguments have a reader each: one for all of them would be opened again by each, at more length.
 fn order_call(heap: Global, arguments: &[&[u8]]) -> Result<Call, Unsaid>
     ensures { Says said (order_says (texts arguments.now)) result }
 {
@@ -87,29 +88,39 @@ fn order_call(heap: Global, arguments: &[&[u8]]) -> Result<Call, Unsaid>
     })
 }
 
-fn height_call(heap: Global, arguments: &[&[u8]]) -> Result<Call, Unsaid>
-    ensures { Says said (height_says (texts arguments.now)) result }
+// A table, its sources and a column.
+fn column_of_table(heap: Global, arguments: &[&[u8]]) -> Result<(Vec<Record>, usize, usize), Unsaid>
+    ensures { Says (λ p. (vec_items p.0, p.1, p.2)) (column_says (texts arguments.now)) result }
 {
     let [records, sources, column] = arguments else {
         return Err(Unsaid::Nothing);
     };
+    Ok((
+        table(heap, records)?,
+        number(sources).ok_or(Unsaid::Nothing)?,
+        number(column).ok_or(Unsaid::Nothing)?,
+    ))
+}
+
+fn height_call(heap: Global, arguments: &[&[u8]]) -> Result<Call, Unsaid>
+    ensures { Says said (height_says (texts arguments.now)) result }
+{
+    let (table, sources, column) = column_of_table(heap, arguments)?;
     Ok(Call::Height {
-        table: table(heap, records)?,
-        sources: number(sources).ok_or(Unsaid::Nothing)?,
-        column: number(column).ok_or(Unsaid::Nothing)?,
+        table,
+        sources,
+        column,
     })
 }
 
 fn pass_call(heap: Global, arguments: &[&[u8]]) -> Result<Call, Unsaid>
     ensures { Says said (pass_says (texts arguments.now)) result }
 {
-    let [records, sources, column] = arguments else {
-        return Err(Unsaid::Nothing);
-    };
+    let (table, sources, column) = column_of_table(heap, arguments)?;
     Ok(Call::Pass {
-        table: table(heap, records)?,
-        sources: number(sources).ok_or(Unsaid::Nothing)?,
-        column: number(column).ok_or(Unsaid::Nothing)?,
+        table,
+        sources,
+        column,
     })
 }
 
@@ -154,40 +165,35 @@ fn read_columns_call(heap: Global, arguments: &[&[u8]]) -> Result<CellsCall, Uns
     })
 }
 
-fn read_committed_call(heap: Global, arguments: &[&[u8]]) -> Result<CellsCall, Unsaid>
-    ensures { Says cells_said (read_committed_says (texts arguments.now)) result }
+// A slot's name, and cells.
+fn slot_and_cells(heap: Global, arguments: &[&[u8]]) -> Result<(String, Vec<usize>), Unsaid>
+    ensures { Says (λ p. (string_bytes p.0, vec_items p.1)) (slot_says (texts arguments.now)) result }
 {
     let [slot, cells] = arguments else {
         return Err(Unsaid::Nothing);
     };
-    Ok(CellsCall::ReadCommitted {
-        name: name(heap, slot)?,
-        cells: list(heap, cells)?,
-    })
+    Ok((name(heap, slot)?, list(heap, cells)?))
+}
+
+fn read_committed_call(heap: Global, arguments: &[&[u8]]) -> Result<CellsCall, Unsaid>
+    ensures { Says cells_said (read_committed_says (texts arguments.now)) result }
+{
+    let (name, cells) = slot_and_cells(heap, arguments)?;
+    Ok(CellsCall::ReadCommitted { name, cells })
 }
 
 fn witness_of_vector_call(heap: Global, arguments: &[&[u8]]) -> Result<CellsCall, Unsaid>
     ensures { Says cells_said (witness_of_vector_says (texts arguments.now)) result }
 {
-    let [slot, cells] = arguments else {
-        return Err(Unsaid::Nothing);
-    };
-    Ok(CellsCall::WitnessOfVector {
-        name: name(heap, slot)?,
-        cells: list(heap, cells)?,
-    })
+    let (name, cells) = slot_and_cells(heap, arguments)?;
+    Ok(CellsCall::WitnessOfVector { name, cells })
 }
 
 fn witness_of_buffer_call(heap: Global, arguments: &[&[u8]]) -> Result<CellsCall, Unsaid>
     ensures { Says cells_said (witness_of_buffer_says (texts arguments.now)) result }
 {
-    let [slot, cells] = arguments else {
-        return Err(Unsaid::Nothing);
-    };
-    Ok(CellsCall::WitnessOfBuffer {
-        name: name(heap, slot)?,
-        cells: list(heap, cells)?,
-    })
+    let (name, cells) = slot_and_cells(heap, arguments)?;
+    Ok(CellsCall::WitnessOfBuffer { name, cells })
 }
 
 fn write_piece_call(heap: Global, arguments: &[&[u8]]) -> Result<CellsCall, Unsaid>
