@@ -11,7 +11,7 @@ use crate::fault::RingError;
 use crate::kind::Ring;
 use std::fmt;
 
-#[derive(Clone, Copy, PartialEq, Eq, Debug)]
+#[derive(Clone, Copy, PartialEq, Eq)]
 pub struct Pair<R> {
     pub a: R,
     pub b: R,
@@ -119,6 +119,10 @@ impl<R: Coefficient> Coefficient for Pair<R> {
     }
 
     fn read(bytes: &[u8]) -> Option<Pair<R>> {
+        // Another length is refused before any part is read, however many parts there are.
+        if bytes.len() != Self::byte_length() {
+            return None;
+        }
         let (front, back) = bytes.split_at_checked(R::byte_length())?;
         Some(Pair {
             a: R::read(front)?,
@@ -135,5 +139,14 @@ impl<R: fmt::Display> fmt::Display for Pair<R> {
         let a = &self.a;
         let b = &self.b;
         write!(f, "{a},{b}")
+    }
+}
+
+// The two parts as they write themselves, with a comma between them; by hand, since a derive would print their names.
+impl<R: fmt::Debug> fmt::Debug for Pair<R> {
+    fn fmt<W: fmt::Write>(&self, f: &mut fmt::Formatter<W>) -> fmt::Result {
+        let a = &self.a;
+        let b = &self.b;
+        write!(f, "{a:?},{b:?}")
     }
 }

@@ -15,7 +15,7 @@ use crate::number::{number_of, put_number};
 use std::fmt;
 
 #[repr(C)]
-#[derive(Clone, Copy, Debug)]
+#[derive(Clone, Copy)]
 pub struct Word {
     number: u64,
 }
@@ -121,6 +121,14 @@ impl Eq for Word {
 impl fmt::Display for Word {
     ghost output = { λ x. Some (decimal (word_value x).0) };
 
+    fn fmt<W: fmt::Write>(&self, f: &mut fmt::Formatter<W>) -> fmt::Result {
+        let number = self.number();
+        write!(f, "{number}")
+    }
+}
+
+// Written as by Display, as residues are; by hand, since a derive would print the name of the number held.
+impl fmt::Debug for Word {
     fn fmt<W: fmt::Write>(&self, f: &mut fmt::Formatter<W>) -> fmt::Result {
         let number = self.number();
         write!(f, "{number}")
