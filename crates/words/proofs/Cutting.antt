@@ -1,22 +1,12 @@
 -- Texts cut at their marks, one piece at a time. Assumes nothing.
-use Rattle.std.proofs.Common.{◌≡◌, ℕ, ◌+◌, ◌≤◌, ltb, Option, Some, None, Bool, true, false, cond, not, eqb, List, [], ◌∷◌, length, filter, refl, ap, ◌∙◌, arith, Bor}
+use Rattle.std.proofs.Common.{◌≡◌, ℕ, ◌+◌, ◌≤◌, ltb, Option, Some, None, Bool, true, false, cond, not, eqb, List, [], ◌∷◌, length, refl, ap, ◌∙◌, arith, Bor}
 use Rattle.std.specs.List.{position_or_len}
 use Rattle.std.specs.Option.{unwrap_or}
 use Rattle.std.proofs.lemmas.Bool.{ltb-false}
-use Rattle.words.specs.Cuts.{texts}
 
 -- a text that is not empty
 abbrev pub solid : List ℕ → Bool
 solid w = not (eqb (length w) 0)
-
--- the words among the pieces
-pub kept : (items : List (Bor (List ℕ))) → texts (filter (λ (q : Bor (List ℕ)). solid q.now) items) ≡ filter solid (texts items)
-kept [] = refl
-kept (q ∷ qs) = by (solid q.now) (kept qs)
-  where
-    by : (t : Bool) → texts (filter (λ (r : Bor (List ℕ)). solid r.now) qs) ≡ filter solid (texts qs) → texts (cond t (q ∷ filter (λ (r : Bor (List ℕ)). solid r.now) qs) (filter (λ (r : Bor (List ℕ)). solid r.now) qs)) ≡ cond t (q.now ∷ filter solid (texts qs)) (filter solid (texts qs))
-    by true e = ap (λ l. q.now ∷ l) e
-    by false e = e
 
 -- the place of the first mark, or the length where there is none
 pub place_within : (test : ℕ → Bool) (bs : List ℕ) → position_or_len test bs ≤ length bs

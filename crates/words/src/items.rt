@@ -1,5 +1,5 @@
 // Lists that words say: items with marks between them, each so many times.
-ghost use Rattle.std.specs.Prelude.{◌≡◌, ℕ, List, vec_items, Option};
+ghost use Rattle.std.specs.Prelude.{◌≡◌, ◌+◌, ◌≤◌, ℕ, List, vec_items, vec_len, Option};
 ghost use Rattle.std.specs.Option.{option_map};
 ghost use Rattle.words.specs.Said.{Says};
 ghost use Rattle.words.specs.Words.{cut_by, item_of, list_by, list_of, repeated};
@@ -7,7 +7,7 @@ ghost use Rattle.words.specs.Words.{cut_by, item_of, list_by, list_of, repeated}
 use crate::literal::{MAX_CELLS, number, says};
 use crate::split::{Mark, pieces, reach};
 use crate::unsaid::Unsaid;
-use std::alloc::Global;
+use std::alloc::{AllocError, Global};
 
 // What the items of a list are.
 pub trait Item {
@@ -53,6 +53,22 @@ pub fn run(item: &[u8]) -> Option<(usize, usize)>
     Some((number(word)?, times))
 }
 
+// Makes room in a list for so many more values. Where there is too little, the room is the next power of two, as when
+// values are put one by one, but never more than the list may have.
+fn make_room<T: Copy>(list: &mut Vec<T>, more: usize, most: usize) -> Result<(), AllocError>
+    requires { vec_len list.old + more ≤ most }
+    ensures items { list.new.items ≡ list.old.items }
+    ensures len { vec_len list.new ≡ vec_len list.old }
+{
+    let length = list.len() + more;
+    if length > list.capacity() {
+        let power = length.checked_next_power_of_two().unwrap_or(most);
+        let room = power.min(most).max(length);
+        list.reserve_exact(room - list.len())?;
+    }
+    Ok(())
+}
+
 // The list that a word says: items with marks between them, or a dash for none; at most so many values.
 pub fn list_of<I: Item>(
     heap: Global,
@@ -71,6 +87,7 @@ pub fn list_of<I: Item>(
         if times > most.saturating_sub(list.len()) {
             return Err(Unsaid::Nothing);
         }
+        make_room(&mut list, times, most)?;
         list.resize(list.len() + times, value)?;
     }
     Ok(list)

@@ -46,14 +46,22 @@ pub fn reach(text: &[u8], mark: Mark) -> usize
 pub fn pieces<'a>(heap: Global, text: &'a [u8], mark: Mark) -> Result<Vec<&'a [u8]>, AllocError>
     ensures { IfOk result (λ v. texts v.items ≡ cut mark text.now) }
 {
-    text.split(|byte| mark.is(*byte)).collect(heap)
+    let mut pieces = Vec::new(heap);
+    for piece in text.split(|byte| mark.is(*byte)) {
+        pieces.push(piece)?;
+    }
+    Ok(pieces)
 }
 
 // The words of a line.
 pub fn words<'a>(heap: Global, line: &'a [u8]) -> Result<Vec<&'a [u8]>, AllocError>
     ensures { IfOk result (λ v. texts v.items ≡ words_in line.now) }
 {
-    let mut words = pieces(heap, line, Mark::Blank)?;
-    words.retain(|word| !word.is_empty());
+    let mut words = Vec::new(heap);
+    for piece in line.split(|byte| Mark::Blank.is(*byte)) {
+        if !piece.is_empty() {
+            words.push(piece)?;
+        }
+    }
     Ok(words)
 }

@@ -1,10 +1,17 @@
-use Rattle.std.proofs.Common.{ℕ, List, filter, Bor, ap, ◌∙◌, rules, tests}
-use Rattle.std.proofs.lemmas.List.Elements.{filter_from_retain}
-use Rattle.words.specs.Cuts.{texts}
-use Rattle.words.proofs.Cutting.{solid, kept}
+use Rattle.std.proofs.Common.{filter, ap, ◌∙◌, rules, tests}
+use Rattle.std.proofs.lemmas.Iterator.Consumers.{YieldsList-at, YieldsList-end}
+use Rattle.std.proofs.lemmas.Iterator.Splits.{YieldsList-from_slice_split}
+use Rattle.words.specs.Cuts.{is_mark, pieces}
+use Rattle.words.specs.declared.split.Mark.TheVariants.{Blank}
+use Rattle.words.proofs.Cutting.{solid}
 use Rattle.words.proofs.split.words.Goals as goal
 
+-- the loop has seen every piece
 pub returns : goal.returns
+unfolding pieces
 returns c =
-    let left = filter_from_retain _ (λ (q : Bor (List ℕ)). solid q.now) (λ p x b q k. search (rules, tests)) _ _ _ c.retain.ensures.filtered in
-    ap texts left ∙ kept c.in_ok-words.words.items ∙ ap (filter solid) c.in_ok-words.ensures
+    let seen = YieldsList-end
+    (YieldsList-at c.into_iter-piece-iterator.ensures.into_iter_gives
+    (YieldsList-from_slice_split _ (is_mark Blank) c.args.line.now c.split-piece-items.ensures.rest c.split-piece-items.ensures.done c.split-piece-items.ensures.closure (λ x b q k. search (rules, tests))))
+    c.loop-piece.yielded _ c.loop-piece.yielded_by _ _ c.in-None.is c.next.ensures.steps in
+    c.loop-piece.invariant ∙ ap (filter solid) seen.0
