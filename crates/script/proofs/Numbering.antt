@@ -1,9 +1,10 @@
 -- Lists of numbers that are cut into elements. Assumes nothing.
-use Rattle.std.proofs.Common.{MatchOption, ◌≡◌, ◌≢◌, ℕ, ◌+◌, ◌*◌, ◌/◌, ◌%◌, ◌<◌, ◌≤◌, List, [], ◌∷◌, ◌++◌, length, get_or, take, drop, Some, None, Err, Option, refl, sym, ap, ◌∙◌, subst, ⊎_elim, mul-le-mul_left, mul-one, mul-add, arith, rules, below_more, length-append, length-drop}
+use Rattle.std.proofs.Common.{MatchOption, ◌≡◌, ◌≢◌, ℕ, ◌+◌, ◌*◌, ◌/◌, ◌%◌, ◌<◌, ◌≤◌, List, [], ◌∷◌, ◌++◌, length, get_or, take, drop, Some, None, Ok, Err, Option, refl, sym, ap, ◌∙◌, subst, ⊎_elim, mul-le-mul_left, mul-one, mul-add, arith, rules, below_more, length-append, length-drop}
 use Rattle.std.proofs.Math.Seq.{take-append_seam, drop-append_seam}
 use Rattle.std.specs.Option.{ok_or}
 use Rattle.words.specs.declared.unsaid.Unsaid.{Unsaid}
 use Rattle.words.specs.declared.unsaid.Unsaid.TheVariants.{Nothing}
+use Rattle.words.proofs.Saying.{made}
 use Rattle.script.specs.Cells.{Numbered}
 use native.Mathlib.Nat.{div-add-mod, mul-mod_right}
 use Rattle.std.proofs.lemmas.List.{length_push, get_or_push, get_or_append_left, drop-drop}
@@ -73,3 +74,11 @@ module _ {E : Type 0} (parts : ℕ) (numbered : List ℕ → E → Type 0) (ns :
 pub unmade : {A : Type 0} (N : Type 0) (P : A → Type 0) (o : Option A) (e : Unsaid) → Err e ≡ ok_or o Nothing → MatchOption o N P → N
 unmade N P None e h m = m
 unmade N P (Some y) e h m = search rules
+
+-- what is read of a part: no element, since the part has another length, or the part's element
+module _ {A : Type 0} (parts : ℕ) (P : List ℕ → A → Type 0) (read part : List ℕ) (o : Option A) (m : MatchOption o (length read ≢ parts) (λ y. (length read ≡ parts) × P read y)) (same : read ≡ part) where
+  pub misread : (e : Unsaid) → Err e ≡ ok_or o Nothing → length part ≢ parts
+  misread e h = subst (λ l. length l ≢ parts) same (unmade _ _ o e h m)
+
+  pub read_of : (x : A) → Ok x ≡ ok_or o Nothing → (length part ≡ parts) × P part x
+  read_of x h = subst (λ l. (length l ≡ parts) × P l x) same (made _ _ o x h m)

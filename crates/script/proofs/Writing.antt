@@ -1,14 +1,26 @@
 -- Texts that are written piece by piece. Assumes nothing.
-use Rattle.std.proofs.Common.{◌≡◌, ℕ, ◌+◌, ◌-◌, ◌/◌, ◌%◌, ◌<◌, ◌≤◌, false, List, [], ◌∷◌, ◌++◌, length, get_or, take, drop, codes, decimal, Some, None, Option, sym, refl, ap, ◌∙◌, append_assoc, append-nil, arith}
+use Rattle.std.proofs.Common.{◌≡◌, ℕ, zero, suc, ◌+◌, ◌-◌, ◌/◌, ◌%◌, ◌<◌, ◌≤◌, false, List, [], ◌∷◌, ◌++◌, length, get_or, take, drop, codes, decimal, Some, None, Option, sym, refl, ap, ◌∙◌, append_assoc, append-nil, arith}
 use Rattle.std.specs.Fmt.{digit_glyph, ◌++?◌}
-use Rattle.std.proofs.lemmas.List.{take_more, take_all, flat_map_more}
+use Rattle.std.specs.Str.{IsAscii}
+use Rattle.std.proofs.lemmas.Bool.Decides.{nat_tests}
+use Rattle.std.proofs.lemmas.Str.Ascii.{IsAscii-nil}
+use Rattle.std.proofs.lemmas.List.{take_more, take_all}
+use Rattle.std.proofs.lemmas.List.Concat.{flat_map-append}
 use Rattle.script.specs.Records.{separated, separated_outputs, commas, hex}
 
--- one byte more, by its two digits
-pub hex_more : (bytes : List ℕ) (i : ℕ) → i < length bytes → hex (take i bytes) ++ digit_glyph false (get_or bytes i 0 / 16) ∷ digit_glyph false (get_or bytes i 0 % 16) ∷ [] ≡ hex (take (i + 1) bytes)
-hex_more bytes i lt =
-    flat_map_more (λ b. digit_glyph false (b / 16) ∷ digit_glyph false (b % 16) ∷ []) [] (take i bytes) (get_or bytes i 0)
-    ∙ ap hex (sym (take_more bytes i 0 lt))
+-- the digits of bytes after others
+pub hex_append : (xs ys : List ℕ) → hex (xs ++ ys) ≡ hex xs ++ hex ys
+hex_append xs ys = flat_map-append (λ b. digit_glyph false (b / 16) ∷ digit_glyph false (b % 16) ∷ []) xs ys
+
+-- digits are ASCII
+glyph_ascii : (d : ℕ) → d < 16 → digit_glyph false d < 128
+glyph_ascii d h = grind (arith, nat_tests)
+
+pub hex_ascii : (bytes : List ℕ) → ((i : ℕ) → get_or bytes i 0 < 256) → IsAscii (hex bytes)
+hex_ascii [] fits i = IsAscii-nil i
+hex_ascii (b ∷ bs) fits zero = glyph_ascii (b / 16) (omega (arith, fits 0))
+hex_ascii (b ∷ bs) fits (suc zero) = glyph_ascii (b % 16) (omega arith)
+hex_ascii (b ∷ bs) fits (suc (suc i)) = hex_ascii bs (λ j. fits (suc j)) i
 
 -- texts that may be unknown, one after the other
 then_none : (o : Option (List ℕ)) → o ++? Some [] ≡ o

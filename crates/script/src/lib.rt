@@ -23,5 +23,5 @@ pub use line::{is_skipped, step};
 pub use session::Session;
 pub use text::{answer_text, joined, record};
 
-// What a script's text is cut by.
-pub use words::{MAX_CELLS, Mark, pieces, words};
+// What a script's text is cut by, and why words say no call.
+pub use words::{MAX_CELLS, Mark, Unsaid, pieces, words};

@@ -1,6 +1,6 @@
 // What is told of calls, in text.
-ghost use Rattle.std.specs.Prelude.{◌≡◌, Some, IfOk, string_bytes};
-ghost use Rattle.std.specs.Fmt.{DisplaysOnOk};
+ghost use Rattle.std.specs.Prelude.{◌≡◌, ◌<◌, ◌≤◌, false, length, Some, IfOk, string_bytes};
+ghost use Rattle.std.specs.Fmt.{DisplaysOnOk, digit_glyph};
 ghost use Rattle.script.specs.Records.{commas, hex, line, told};
 
 use crate::answer::Answer;
@@ -53,14 +53,43 @@ impl fmt::Display for Answer {
     }
 }
 
-// Writes each byte by two hexadecimal digits.
+// How many bytes are written at once. The contract says the number itself.
+const PORTION: usize = 32;
+
+// Writes each byte by two hexadecimal digits; a portion at a time, since one call of the formatter a byte takes several
+// times as long.
 fn write_hex<W: fmt::Write>(f: &mut fmt::Formatter<W>, bytes: &[u8]) -> fmt::Result
     ensures { DisplaysOnOk W.write_str_gives f.old result (Some (hex bytes.now)) f.new }
 {
-    for byte in bytes {
-        write!(f, "{byte:02x}")?;
+    for portion in bytes.chunks(PORTION) {
+        write_portion(f, portion)?;
     }
     Ok(())
+}
+
+// The same of so few bytes that their digits have room in an array.
+fn write_portion<W: fmt::Write>(f: &mut fmt::Formatter<W>, bytes: &[u8]) -> fmt::Result
+    requires { length bytes.now ≤ 32 }
+    ensures { DisplaysOnOk W.write_str_gives f.old result (Some (hex bytes.now)) f.new }
+{
+    let mut digits = [0; 2 * PORTION];
+    for (place, byte) in bytes.iter().enumerate() {
+        digits[2 * place] = hex_digit(*byte / 16);
+        digits[2 * place + 1] = hex_digit(*byte % 16);
+    }
+    f.write_str(std::str::from_utf8(&digits[..2 * bytes.len()]).unwrap())
+}
+
+// The hexadecimal digit of a number below sixteen.
+fn hex_digit(number: u8) -> u8
+    requires { number < 16 }
+    ensures { result ≡ digit_glyph false number }
+{
+    if number < 10 {
+        b'0' + number
+    } else {
+        b'a' + (number - 10)
+    }
 }
 
 // Numbers in decimal, with commas between them.

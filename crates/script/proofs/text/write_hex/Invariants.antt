@@ -1,7 +1,10 @@
-use Rattle.std.proofs.Common.{take}
+use Rattle.std.proofs.Common.{◌≡◌, ◌++◌, List, ℕ}
 use Rattle.std.specs.Fmt.{HasWritten, IsPlainFormatter}
+use Rattle.std.specs.Slice.Iter.{chunks_size, chunks_rest}
 use Rattle.script.specs.Records.{hex}
 use Rattle.script.proofs.text.write_hex.Given as goal
 
-abbrev pub invariant-loop-byte : goal.invariant-loop-byte
-invariant-loop-byte g l = IsPlainFormatter l.initial.f → HasWritten g.W.Write.write_str_gives l.initial.f (hex (take l.byte-index l.bytes)) l.f
+abbrev pub invariant-loop-portion : goal.invariant-loop-portion
+invariant-loop-portion g l =
+    (chunks_size l.portion-iterator ≡ 32)
+    × (IsPlainFormatter l.initial.f → (done : List ℕ) × (l.bytes ≡ done ++ chunks_rest l.portion-iterator) × HasWritten g.W.Write.write_str_gives l.initial.f (hex done) l.f)
