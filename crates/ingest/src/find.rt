@@ -10,7 +10,7 @@ use crate::ordered::Ordered;
 use crate::record::{MAX_RECORDS, Record};
 
 impl Leaves {
-    fn none() -> Leaves
+    pub(crate) fn none() -> Leaves
         ensures { found result ≡ [] }
     {
         Leaves {
@@ -57,15 +57,14 @@ impl<'a> Ordered<'a> {
         }
     }
 
-    // Finds the leaves of all columns.
-    pub(crate) fn find_all(&self) -> Leaves
-        ensures { found result ≡ run_of (leaves_of self.now.records.now) 0 self.now.sources }
+    // Finds the leaves of all columns, into leaves that are lent empty: to hand back all their room would copy 32 KiB.
+    pub(crate) fn find_all(&self, leaves: &mut Leaves)
+        requires { found leaves.old ≡ [] }
+        ensures { found leaves.new ≡ run_of (leaves_of self.now.records.now) 0 self.now.sources }
     {
-        let mut leaves = Leaves::none();
         // A column is asked for by its number; what its record holds is looked at by what is called.
         for column in 0..self.sources {
-            self.find(column, &mut leaves);
+            self.find(column, leaves);
         }
-        leaves
     }
 }

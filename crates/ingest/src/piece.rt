@@ -10,6 +10,7 @@ ghost use Rattle.ingest.specs.Table.{height_of};
 
 use crate::block::{Block, Extent};
 use crate::fault::JaggedIngestError;
+use crate::leaves::Leaves;
 use crate::ordered::Ordered;
 use crate::record::Record;
 use ring::Ring;
@@ -61,6 +62,7 @@ pub fn write_piece<R: Ring>(
 {
     let block = Block { cells, words };
     let ordered = check_piece(table, column, block.extent(), out.len())?;
-    let leaves = ordered.find_all();
+    let mut leaves = Leaves::none();
+    ordered.find_all(&mut leaves);
     Ok(ordered.write_leaves(&leaves, &block, out))
 }

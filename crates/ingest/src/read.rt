@@ -11,6 +11,7 @@ ghost use Rattle.ingest.specs.Reading.{one_checks, columns_checks, read_checks, 
 use crate::account::IngestReport;
 use crate::block::{Block, Extent};
 use crate::fault::JaggedIngestError;
+use crate::leaves::Leaves;
 use crate::ordered::Ordered;
 use crate::record::Record;
 use layout::JaggedLayout;
@@ -128,7 +129,8 @@ pub fn read_columns<R: Ring>(
 {
     let block = Block { cells, words };
     let ordered = check_reading(layout, table, sources, block.extent(), buffer.len())?;
-    let leaves = ordered.find_all();
+    let mut leaves = Leaves::none();
+    ordered.find_all(&mut leaves);
     let area = ordered.write_leaves(&leaves, &block, buffer);
     clear(&mut buffer[area..layout.dense_capacity()]);
     Ok(ordered.charge(layout))

@@ -31,7 +31,7 @@ returns-in_err-ordered g c =
 pub write_leaves-requires : goal.write_leaves-requires
 write_leaves-requires g c =
     let o = c.in_ok-ordered.ordered in
-    let piece = brought g.R.Ring.ops (map g.R.Ring.value c.args.cells.now) c.args.words.now c.args.table.now o.records.now (found c.find_all-leaves.result) c.args.column (length c.args.cells.now) (length c.args.words.now) c.extent.result.cells c.extent.result.words (length c.args.out.now) o.sources c.check_piece.result o c.check_piece.ensures.answer c.in_ok-ordered.was c.in_ok-ordered.ensures.same.0 c.in_ok-ordered.ensures.same.1 c.extent.ensures.cells c.extent.ensures.words c.find_all-leaves.ensures in
+    let piece = brought g.R.Ring.ops (map g.R.Ring.value c.args.cells.now) c.args.words.now c.args.table.now o.records.now (found c.find_all.new.leaves) c.args.column (length c.args.cells.now) (length c.args.words.now) c.extent.result.cells c.extent.result.words (length c.args.out.now) o.sources c.check_piece.result o c.check_piece.ensures.answer c.in_ok-ordered.was c.in_ok-ordered.ensures.same.0 c.in_ok-ordered.ensures.same.1 c.extent.ensures.cells c.extent.ensures.words c.find_all.ensures in
     record { sits = piece.sits; room = omega (arith, piece.tall, piece.fits) }
 
 pub returns : goal.returns
@@ -42,7 +42,7 @@ returns g c =
     let old = map g.R.Ring.value c.args.out.now in
     let out = map g.R.Ring.value c.write_leaves.new.out in
     let o = c.in_ok-ordered.ordered in
-    let piece = brought g.R.Ring.ops cells words t o.records.now (found c.find_all-leaves.result) c.args.column (length c.args.cells.now) (length words) c.extent.result.cells c.extent.result.words (length c.args.out.now) o.sources c.check_piece.result o c.check_piece.ensures.answer c.in_ok-ordered.was c.in_ok-ordered.ensures.same.0 c.in_ok-ordered.ensures.same.1 c.extent.ensures.cells c.extent.ensures.words c.find_all-leaves.ensures in
+    let piece = brought g.R.Ring.ops cells words t o.records.now (found c.find_all.new.leaves) c.args.column (length c.args.cells.now) (length words) c.extent.result.cells c.extent.result.words (length c.args.out.now) o.sources c.check_piece.result o c.check_piece.ensures.answer c.in_ok-ordered.was c.in_ok-ordered.ensures.same.0 c.in_ok-ordered.ensures.same.1 c.extent.ensures.cells c.extent.ensures.words c.find_all.ensures in
     let wrote = c.write_leaves.ensures.written ∙ ap (λ l. over l old) piece.rows_are in
     let by_rows = piece_by_rows g.R.Ring.ops cells words t old out wrote in
     record {

@@ -18,14 +18,14 @@ use Rattle.ingest.proofs.Placed.{Ready, heights_count, ready}
 use Rattle.ingest.proofs.Written.{leaf_more}
 use Rattle.ingest.proofs.read.read_columns.Given.{Over}
 use Rattle.ingest.proofs.read.read_columns.Goals as goal
-use Rattle.ingest.proofs.read.read_columns.Goals.{After-find_all-leaves}
+use Rattle.ingest.proofs.read.read_columns.Goals.{After-find_all}
 
 -- what is known once every check has passed and the leaves are found
-given : (g : Over) (c : After-find_all-leaves g) → Ready g.R.Ring.ops (map g.R.Ring.value c.args.cells.now) c.args.words.now (shape c.args.layout.now) c.args.table.now c.in_ok-ordered.ordered.records.now (found c.find_all-leaves.result) c.args.sources (length c.args.cells.now) (length c.args.words.now) (length c.args.buffer.now)
+given : (g : Over) (c : After-find_all g) → Ready g.R.Ring.ops (map g.R.Ring.value c.args.cells.now) c.args.words.now (shape c.args.layout.now) c.args.table.now c.in_ok-ordered.ordered.records.now (found c.find_all.new.leaves) c.args.sources (length c.args.cells.now) (length c.args.words.now) (length c.args.buffer.now)
 given g c =
     let S = shape c.args.layout.now in
     let o = c.in_ok-ordered.ordered in
-    ready g.R.Ring.ops (map g.R.Ring.value c.args.cells.now) c.args.words.now S c.args.table.now o.records.now (found c.find_all-leaves.result) c.args.sources (length c.args.cells.now) (length c.args.words.now) c.extent.result.cells c.extent.result.words (length c.args.buffer.now) o.sources c.check_reading.result o c.check_reading.ensures.answer c.in_ok-ordered.was c.in_ok-ordered.ensures.same.0 c.in_ok-ordered.ensures.same.1 c.extent.ensures.cells c.extent.ensures.words c.find_all-leaves.ensures
+    ready g.R.Ring.ops (map g.R.Ring.value c.args.cells.now) c.args.words.now S c.args.table.now o.records.now (found c.find_all.new.leaves) c.args.sources (length c.args.cells.now) (length c.args.words.now) c.extent.result.cells c.extent.result.words (length c.args.buffer.now) o.sources c.check_reading.result o c.check_reading.ensures.answer c.in_ok-ordered.was c.in_ok-ordered.ensures.same.0 c.in_ok-ordered.ensures.same.1 c.extent.ensures.cells c.extent.ensures.words c.find_all.ensures
 
 pub returns-in_err-ordered : goal.returns-in_err-ordered
 returns-in_err-ordered g c =
@@ -48,13 +48,13 @@ returns-in_err-ordered g c =
 
 pub write_leaves-area-requires : goal.write_leaves-area-requires
 write_leaves-area-requires g c =
-    let reading = given g (goal.at.write_leaves-area-requires g c).After-find_all-leaves in
+    let reading = given g (goal.at.write_leaves-area-requires g c).After-find_all in
     let law = all_lawful c.args.layout.now in
     record { sits = reading.sits; room = omega (arith, ap length reading.rows_are, reading.fill, reading.ok.room, law.covered) }
 
 pub offset_bounds-buffer-area : goal.offset_bounds-buffer-area
 offset_bounds-buffer-area g c =
-    let reading = given g (goal.at.offset_bounds-buffer-area g c).After-find_all-leaves in
+    let reading = given g (goal.at.offset_bounds-buffer-area g c).After-find_all in
     let law = all_lawful c.args.layout.now in
     let start = c.write_leaves-area.ensures.told ∙ ap length reading.rows_are ∙ reading.fill in
     let h : c.write_leaves-area.result ≤ length c.write_leaves-area.new.out = omega (arith, reading.ok.room, law.covered) in
@@ -62,7 +62,7 @@ offset_bounds-buffer-area g c =
 
 pub slice_bounds-clear-count : goal.slice_bounds-clear-count
 slice_bounds-clear-count g c =
-    let reading = given g (goal.at.slice_bounds-clear-count g c).After-find_all-leaves in
+    let reading = given g (goal.at.slice_bounds-clear-count g c).After-find_all in
     let law = all_lawful c.args.layout.now in
     let start = c.write_leaves-area.ensures.told ∙ ap length reading.rows_are ∙ reading.fill in
     let h : c.write_leaves-area.result ≤ c.dense_capacity.result = omega (arith, law.covered) in
@@ -70,7 +70,7 @@ slice_bounds-clear-count g c =
 
 pub slice_bounds-clear-start : goal.slice_bounds-clear-start
 slice_bounds-clear-start g c =
-    let reading = given g (goal.at.slice_bounds-clear-start g c).After-find_all-leaves in
+    let reading = given g (goal.at.slice_bounds-clear-start g c).After-find_all in
     let law = all_lawful c.args.layout.now in
     let start = c.write_leaves-area.ensures.told ∙ ap length reading.rows_are ∙ reading.fill in
     let h : c.write_leaves-area.result ≤ c.dense_capacity.result = omega (arith, law.covered) in
@@ -78,7 +78,7 @@ slice_bounds-clear-start g c =
 
 pub slice_bounds-clear-end : goal.slice_bounds-clear-end
 slice_bounds-clear-end g c =
-    let reading = given g (goal.at.slice_bounds-clear-end g c).After-find_all-leaves in
+    let reading = given g (goal.at.slice_bounds-clear-end g c).After-find_all in
     let law = all_lawful c.args.layout.now in
     let start = c.write_leaves-area.ensures.told ∙ ap length reading.rows_are ∙ reading.fill in
     let h : c.dense_capacity.result ≤ length c.write_leaves-area.new.out = omega (arith, reading.ok.room) in
@@ -88,7 +88,7 @@ pub returns : goal.returns
 returns g c =
     let S = shape c.args.layout.now in
     let o = c.in_ok-ordered.ordered in
-    let reading = given g (goal.at.returns g c).After-find_all-leaves in
+    let reading = given g (goal.at.returns g c).After-find_all in
     let law = all_lawful c.args.layout.now in
     let start = c.write_leaves-area.ensures.told ∙ ap length reading.rows_are ∙ reading.fill in
     let t = c.args.table.now in
