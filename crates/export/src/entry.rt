@@ -1,5 +1,5 @@
 // Records as C passes them: six numbers each.
-ghost use Rattle.std.specs.Prelude.{◌≡◌, ◌≤◌, length, take};
+ghost use Rattle.std.specs.Prelude.{◌≡◌, ◌≤◌, [], length, take};
 ghost use Rattle.export.specs.Entries.{record_of, table_of};
 
 use ingest::{MAX_RECORDS, Record};
@@ -65,16 +65,30 @@ pub(crate) struct Records {
 }
 
 impl Records {
-    pub(crate) fn of(entries: &[Entry]) -> Records
-        ensures { take result.count result.records ≡ table_of entries.now }
+    // None yet. A caller fills these where they stay: to hand back full ones would copy 192 KiB.
+    pub(crate) fn none() -> Records
+        ensures { take result.count result.records ≡ [] }
+    {
+        // A record whose bytes are all 0, so that the array is cleared at once.
+        Records {
+            records: [Record::Dense {
+                place: 0,
+                height: 0,
+            }; MAX_ENTRIES],
+            count: 0,
+        }
+    }
+
+    // The records of the entries, in place of those that there were.
+    pub(crate) fn fill(&mut self, entries: &[Entry])
+        ensures { take self.new.count self.new.records ≡ table_of entries.now }
     {
         let count = entries.len().min(MAX_ENTRIES);
-        let mut records = [Record::Chunked { from: 0, count: 0 }; MAX_ENTRIES];
+        self.count = count;
         // The place is counted, since the library tells nothing of what a loop over `iter_mut` beside `zip` wrote.
         for (place, entry) in entries[..count].iter().enumerate() {
-            records[place] = Record::from(*entry);
+            self.records[place] = Record::from(*entry);
         }
-        Records { records, count }
     }
 
     pub(crate) fn as_slice(&self) -> &[Record]

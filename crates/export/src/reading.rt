@@ -13,7 +13,8 @@ use ring::{Residue, Ring, Word};
 // Checks the table against each of these numbers of sources, and writes the fault's number, or 0.
 #[unsafe(no_mangle)]
 pub extern "C" fn mossplane_check(entries: &[Entry], sources: &[usize], faults: &mut [u8]) {
-    let records = Records::of(entries);
+    let mut records = Records::none();
+    records.fill(entries);
     for (fault, count) in faults.iter_mut().zip(sources) {
         *fault = told(check_order(records.as_slice(), *count).map_err(Refusal::Ingest));
     }
@@ -32,7 +33,8 @@ fn read_rounds<R: Ring>(
     ensures { result ≡ read_answer row_variables heights.now (table_of entries.now) (length cells.now) (length words.now) rounds (length buffer.old) }
 {
     let layout = layout_of(row_variables, heights)?;
-    let records = Records::of(entries);
+    let mut records = Records::none();
+    records.fill(entries);
     let table = records.as_slice();
     let mut outcome = Ok(());
     // Each round reads anew, also after a refusal: the rounds are there to be timed.
