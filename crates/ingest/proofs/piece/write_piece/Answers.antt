@@ -1,8 +1,9 @@
-use Rattle.std.proofs.Common.{map, length, Ok, Err, sym, refl, ap, ◌∙◌, subst, arith}
+use Rattle.std.proofs.Common.{map, length, Err, sym, refl, ap, ◌∙◌, subst, arith, rules}
 use Rattle.std.proofs.lemmas.Result.{MatchResult-from_err, err_from_is_err_and, IfOk-from_err}
 use Rattle.ring.specs.Bytes.{over}
 use Rattle.ring.specs.Checks.{verdict}
 use Rattle.ring.proofs.Verdicts.{verdict_all, verdict_err}
+use Rattle.ingest.specs.declared.fault.JaggedIngestError.TheVariants.{ColumnHeightOverflow}
 use Rattle.ingest.specs.Charges.{outcome}
 use Rattle.ingest.specs.Cuts.{RowLaws}
 use Rattle.ingest.specs.Found.{found}
@@ -10,6 +11,7 @@ use Rattle.ingest.specs.Piece.{piece_checks}
 use Rattle.ingest.specs.Table.{height_of}
 use Rattle.ingest.proofs.Cuts.{piece_by_cuts, piece_by_rows, row_laws}
 use Rattle.ingest.proofs.Pieces.{brought}
+use Rattle.ingest.proofs.Walks.{fits, fitting}
 use Rattle.ingest.proofs.piece.write_piece.Goals as goal
 
 pub returns-in_err-ordered : goal.returns-in_err-ordered
@@ -44,12 +46,16 @@ returns g c =
     let o = c.in_ok-ordered.ordered in
     let piece = brought g.R.Ring.ops cells words t o.records.now (found c.find_all.new.leaves) c.args.column (length c.args.cells.now) (length words) c.extent.result.cells c.extent.result.words (length c.args.out.now) o.sources c.check_piece.result o c.check_piece.ensures.answer c.in_ok-ordered.was c.in_ok-ordered.ensures.same.0 c.in_ok-ordered.ensures.same.1 c.extent.ensures.cells c.extent.ensures.words c.find_all.ensures in
     let wrote = c.write_leaves.ensures.written ∙ ap (λ l. over l old) piece.rows_are in
+    let told = c.write_leaves.ensures.told ∙ piece.tall in
+    let high = ap (λ u. fitting (ColumnHeightOverflow c.args.column) (height_of u 0)) c.in_ok-ordered.ensures.same.0 ∙ fits (ColumnHeightOverflow c.args.column) (height_of t 0) (omega (arith, piece.fits)) in
     let by_rows = piece_by_rows g.R.Ring.ops cells words t old out wrote in
+    let cuts = piece_by_cuts g.R.Ring.ops cells words t old out by_rows in
+    let laws = subst (RowLaws g.R.Ring.ops cells words) c.in_ok-ordered.ensures.same.0 (row_laws g.R.Ring.ops cells words o.records.now o.sound) in
     record {
-      answer = ap Ok (c.write_leaves.ensures.told ∙ piece.tall) ∙ sym (verdict_all (piece_checks t c.args.column (length c.args.cells.now) (length words) (length c.args.out.now)) (height_of t 0) piece.passed);
-      written = wrote;
-      same = by_rows;
-      cuts = piece_by_cuts g.R.Ring.ops cells words t old out by_rows;
-      laws = subst (RowLaws g.R.Ring.ops cells words) c.in_ok-ordered.ensures.same.0 (row_laws g.R.Ring.ops cells words o.records.now o.sound);
+      answer = search (rules, told, high) ∙ sym (verdict_all (piece_checks t c.args.column (length c.args.cells.now) (length words) (length c.args.out.now)) (height_of t 0) piece.passed);
+      written = search (rules, wrote, high);
+      same = search (rules, by_rows, high);
+      cuts = search (rules, cuts, high);
+      laws = search (rules, laws, high);
       kept = c.write_leaves.ensures.kept (height_of t 0) (omega (arith, c.write_leaves.ensures.told, piece.tall));
     }
